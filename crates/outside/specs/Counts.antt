@@ -1,0 +1,18 @@
+-- Counts of what failed. They never fall, and end at the greatest number of 64 bits.
+use Rattle.std.specs.Prelude.{ℕ, ◌+◌, ◌-◌, ◌^◌, ◌≤◌, min}
+
+-- a count rose, or stands at its end
+abbrev pub Rose : ℕ → ℕ → Type 0
+Rose before now = min (before + 1) (2 ^ 64 - 1) ≤ now
+
+-- what files count: calls that failed, names that were not there, and reads at or past an end
+pub record Counts : Type 0 where
+  pub faults : ℕ
+  pub absences : ℕ
+  pub ends : ℕ
+
+-- no count fell
+pub record NoneFell (before now : Counts) : Type 0 where
+  pub faults : before.faults ≤ now.faults
+  pub absences : before.absences ≤ now.absences
+  pub ends : before.ends ≤ now.ends

@@ -1,0 +1,6 @@
+-- definitions that contracts cite
+pub use Rattle.base_fields.specs.Fields
+pub mod Counts
+pub mod Files
+pub mod Printer
+pub mod Reading

@@ -1,0 +1,11 @@
+//! What lies outside of the program: files by name and a printer of lines, each as a trait with its meaning
+//! and its counts, as objects in memory, and as adapters of the host.
+#![tactic(auto)]
+
+mod files;
+mod printer;
+mod reading;
+
+pub use files::{ComposeFault, FileErr, Files, WriteErr};
+pub use printer::{PrintErr, Printer};
+pub use reading::{FillFault, fill};
