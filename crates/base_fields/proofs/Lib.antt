@@ -1,2 +1,5 @@
 -- lemmas
+mod Crc
+mod Guid
+mod Multiples
 mod Writes
