@@ -1,2 +1,3 @@
 -- lemmas
 mod ReadLemmas
+mod WriteLemmas

@@ -4,3 +4,4 @@ pub mod Counts
 pub mod Files
 pub mod Printer
 pub mod Reading
+pub mod Writing

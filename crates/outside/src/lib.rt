@@ -5,7 +5,9 @@
 mod files;
 mod printer;
 mod reading;
+mod writing;
 
 pub use files::{ComposeFault, FileErr, Files, WriteErr};
 pub use printer::{PrintErr, Printer};
 pub use reading::{FillFault, fill};
+pub use writing::{TransferFault, transfer};
