@@ -1,0 +1,3 @@
+-- lemmas
+mod RunLemmas
+mod SmallTextLemmas

@@ -1,0 +1,62 @@
+-- What `build` answers over files that are told, in the order in which it looks for its refusals.
+use Rattle.std.specs.Prelude.{ℕ, ◌^◌, ◌&&◌, not, nat_eq, nat_le, List, [], ◌∷◌, length, codes, Option, Some, None, Result, Ok, Err, if◌then◌else◌, Bool}
+use Rattle.std.specs.List.{starts_with}
+use Rattle.std.specs.Str.{bytes_eq}
+use Rattle.outside.specs.Files.{Tree}
+use Rattle.answer_lines.specs.declared.answer.Answer.{Answer}
+use Rattle.answer_lines.specs.declared.answer.Answer.TheVariants.{Usage, TooLong, TooFar, Missing, NotBuilt}
+use Rattle.image_jobs.specs.declared.small_text.SmallConf.{SmallConf}
+use Rattle.image_jobs.specs.Layout.{Layout, one_part}
+use Rattle.image_jobs.specs.SmallText.{meaning}
+
+-- the bytes of all texts are at most these
+abbrev pub text_limit : ℕ
+text_limit = 1048576
+
+-- an image, and a part of it, have at most these bytes
+abbrev pub size_limit : ℕ
+size_limit = 2 ^ 43
+
+infixl 10 ◌>>=◌
+abbrev pub ◌>>=◌ : {A B E : Type 0} → Result A E → (A → Result B E) → Result B E
+(Ok x) >>= f = f x
+(Err e) >>= f = Err e
+
+-- what is there, or the refusal
+abbrev pub or_else : {A : Type 0} → Option A → Answer → Result A Answer
+or_else None refusal = Err refusal
+or_else (Some x) refusal = Ok x
+
+-- what is found, where it passes, or the refusal
+abbrev pub when : {A : Type 0} → Bool → A → Answer → Result A Answer
+when passes x refusal = if passes then Ok x else Err refusal
+
+-- the configuration that the words `build CONF` name; CONF doesn't begin with a dash
+abbrev pub conf_of : List (List ℕ) → Option (List ℕ)
+conf_of (command ∷ conf ∷ []) = if bytes_eq command (codes "build") && not (starts_with nat_eq conf (codes "-")) then Some conf else None
+conf_of words = None
+
+-- the text of that name, or why it isn't read
+abbrev pub text_of : Tree → List ℕ → Result (List ℕ) Answer
+text_of file conf = do
+  text ← or_else (file conf) (Missing conf)
+  when (nat_le (length text) text_limit) text (TooLong (length text))
+
+-- what the text of that name says, or why it says nothing
+abbrev pub said : Tree → List ℕ → Result SmallConf Answer
+said file conf = do
+  text ← text_of file conf
+  or_else (meaning conf text) (NotBuilt conf)
+
+-- where the parts stand, or why they don't
+abbrev pub placed : Tree → SmallConf → Result Layout Answer
+placed file conf = do
+  source ← or_else (file conf.source) (Missing conf.source)
+  when (nat_le (length source) size_limit) (one_part conf.image conf.source (length source)) (TooFar conf.part (length source) size_limit)
+
+-- the layout that `build` is to make, or its refusal
+abbrev pub planned : List (List ℕ) → Tree → Result Layout Answer
+planned words file = do
+  conf ← or_else (conf_of words) Usage
+  small ← said file conf
+  placed file small

@@ -1,0 +1,9 @@
+//! The commands: from their words to their answer, over any files and any printer.
+#![tactic(auto)]
+
+mod building;
+mod printing;
+mod running;
+mod small_text;
+
+pub use running::run;

@@ -1,0 +1,52 @@
+ghost use Rattle.std.specs.Prelude.{◌≡◌, ◌≤◌, OnOk, OnErr, [], ◌∷◌};
+ghost use Rattle.outside.specs.Counts.{Rose};
+ghost use Rattle.outside.specs.Printer.{added};
+ghost use Rattle.answer_lines.specs.Answer.{built_text, error_text, image_text};
+ghost use Rattle.answer_lines.specs.declared.answer.Report.TheVariants as report;
+ghost use Rattle.image_jobs.specs.Run.{IsRefusal, LineAnswer, Prints};
+
+use answer_lines::{Answer, Report, built_line, error_line, image_line};
+use outside::{PrintErr, Printer};
+
+/// The most bytes of a line.
+const LINE_ROOM: usize = 1024;
+
+/// Prints the line of a refusal, which is the answer whether or not the line fails.
+pub fn refuse<P: Printer>(refusal: Answer, out: &mut P) -> Answer
+    requires { IsRefusal refusal }
+    ensures answer { result ≡ refusal }
+    ensures refusal { IsRefusal result }
+    ensures prints { Prints (error_text refusal ∷ []) (P.lines out.old) (P.lines out.new) (P.faults out.old) (P.faults out.new) }
+    ensures none_fell { P.faults out.old ≤ P.faults out.new }
+{
+    let mut room = [0; LINE_ROOM];
+    let length = error_line(&refusal, &mut room);
+    let _ = out.line(&room[..length]);
+    refusal
+}
+
+/// Prints the lines of a build that is done, and answers so.
+pub fn report_built<P: Printer>(image: &str, size: u64, out: &mut P) -> Answer
+    ensures answer { LineAnswer (report.Built 1) (P.faults out.old) (P.faults out.new) result }
+    ensures prints { Prints (image_text image.now size ∷ built_text 1 ∷ []) (P.lines out.old) (P.lines out.new) (P.faults out.old) (P.faults out.new) }
+    ensures none_fell { P.faults out.old ≤ P.faults out.new }
+{
+    match print_built(image, size, out) {
+        Ok(()) => Answer::Done(Report::Built { images: 1 }),
+        Err(PrintErr) => Answer::PrintFault,
+    }
+}
+
+fn print_built<P: Printer>(image: &str, size: u64, out: &mut P) -> Result<(), PrintErr>
+    ensures ok { OnOk result (P.faults out.new ≡ P.faults out.old) }
+    ensures failed { OnErr result (Rose (P.faults out.old) (P.faults out.new)) }
+    ensures prints { Prints (image_text image.now size ∷ built_text 1 ∷ []) (P.lines out.old) (P.lines out.new) (P.faults out.old) (P.faults out.new) }
+    ensures none_fell { P.faults out.old ≤ P.faults out.new }
+{
+    let mut room = [0; LINE_ROOM];
+    let length = image_line(image, size, &mut room);
+    out.line(&room[..length])?;
+    let length = built_line(1, &mut room);
+    out.line(&room[..length])?;
+    Ok(())
+}
