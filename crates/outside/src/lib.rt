@@ -3,11 +3,13 @@
 #![tactic(auto)]
 
 mod files;
+mod memory;
 mod printer;
 mod reading;
 mod writing;
 
 pub use files::{ComposeFault, FileErr, Files, WriteErr};
+pub use memory::SureFiles;
 pub use printer::{PrintErr, Printer};
 pub use reading::{FillFault, fill};
 pub use writing::{TransferFault, transfer};
