@@ -1,8 +1,10 @@
 ghost use Rattle.std.specs.Prelude.{◌≡◌, ◌<◌, ◌≤◌, ℕ, List, Some, None, option_map, option_copied, OnOk, OnErr, length, vec_len};
 ghost use Rattle.std.specs.BTreeMap.{get_by_text};
 ghost use Rattle.base_fields.specs.Fields.{written};
+ghost use Rattle.outside.specs.Calls.{unused, listing};
 ghost use Rattle.outside.specs.Files.{OthersStay, IsReadAt};
 
+use crate::failures::Failures;
 use crate::{FileErr, Files, WriteErr};
 use base_fields::NoMemory;
 use std::alloc::{AllocError, Global};
@@ -104,6 +106,123 @@ impl Files for SureFiles {
             None => unreachable!(),
         }
         Ok(())
+    }
+}
+
+/// Files in memory of which the listed calls fail.
+#[derive(Debug, Drop)]
+pub struct MemFiles {
+    files: SureFiles,
+    failures: Failures,
+}
+
+impl MemFiles {
+    ghost use Rattle.outside.specs.Memory.{calls_of};
+
+    /// No file at all, and no call that fails. Takes no memory.
+    pub fn new(alloc: Global) -> MemFiles
+        ensures empty { (name : List ℕ) → ⟦<MemFiles as Files>⟧.file result name ≡ None }
+        ensures calls { calls_of result ≡ unused }
+    {
+        MemFiles {
+            files: SureFiles::new(alloc),
+            failures: Failures::new(alloc),
+        }
+    }
+
+    /// Makes or replaces a file with these bytes. This is no call that is numbered.
+    pub fn put(&mut self, name: &str, bytes: &[u8]) -> Result<(), NoMemory>
+        ensures ok { OnOk result (⟦<MemFiles as Files>⟧.file self.new name.now ≡ Some bytes.now) }
+        ensures others { OthersStay name.now (⟦<MemFiles as Files>⟧.file self.old) (⟦<MemFiles as Files>⟧.file self.new) }
+        ensures err { OnErr result (⟦<MemFiles as Files>⟧.file self.new ≡ ⟦<MemFiles as Files>⟧.file self.old) }
+        ensures calls { calls_of self.new ≡ calls_of self.old }
+    {
+        self.files.put(name, bytes)?;
+        Ok(())
+    }
+
+    /// Lets the call of this number fail. The calls that read, make or write a file are numbered from 0 from the
+    /// making of the object.
+    pub fn fail(&mut self, call: u64) -> Result<(), NoMemory>
+        ensures ok { OnOk result (calls_of self.new ≡ listing (calls_of self.old) call) }
+        ensures err { OnErr result (calls_of self.new ≡ calls_of self.old) }
+        ensures same_files { ⟦<MemFiles as Files>⟧.file self.new ≡ ⟦<MemFiles as Files>⟧.file self.old }
+    {
+        self.failures.list(call)?;
+        Ok(())
+    }
+
+    /// The bytes of a file.
+    pub fn bytes(&self, name: &str) -> Option<&[u8]>
+        ensures { option_copied result ≡ ⟦<MemFiles as Files>⟧.file self.now name.now }
+    {
+        self.files.bytes(name)
+    }
+}
+
+impl Files for MemFiles {
+    ghost told = { Unit {0} };
+
+    ghost file = { λ m. ⟦<SureFiles as Files>⟧.file m.files };
+
+    ghost counts = { λ m. record (⟦<SureFiles as Files>⟧.counts m.files) { faults = m.failures.faults } };
+
+    fn length(&mut self, name: &str) -> Result<u64, FileErr> {
+        if self.failures.fails() {
+            return Err(FileErr::Failed);
+        }
+        self.files.length(name)
+    }
+
+    fn read_at(&mut self, name: &str, off: u64, buf: &mut [u8]) -> Result<usize, FileErr> {
+        if self.failures.fails() {
+            return Err(FileErr::Failed);
+        }
+        self.files.read_at(name, off, buf)
+    }
+
+    fn create(&mut self, name: &str, len: u64) -> Result<(), WriteErr> {
+        if self.failures.fails() {
+            return Err(WriteErr::Failed);
+        }
+        self.files.create(name, len)
+    }
+
+    fn write_at(&mut self, name: &str, off: u64, bytes: &[u8]) -> Result<(), WriteErr> {
+        if self.failures.fails() {
+            return Err(WriteErr::Failed);
+        }
+        self.files.write_at(name, off, bytes)
+    }
+}
+
+/// Files of which one call reads at most one byte. Every other call is passed on.
+#[derive(Debug, Drop)]
+pub struct TrickleFiles<F: Files> {
+    pub inner: F,
+}
+
+impl<F: Files> Files for TrickleFiles<F> {
+    ghost told = { F.told };
+
+    ghost file = { λ t. F.file t.inner };
+
+    ghost counts = { λ t. F.counts t.inner };
+
+    fn length(&mut self, name: &str) -> Result<u64, FileErr> {
+        self.inner.length(name)
+    }
+
+    fn read_at(&mut self, name: &str, off: u64, buf: &mut [u8]) -> Result<usize, FileErr> {
+        self.inner.read_at(name, off, &mut buf[..1])
+    }
+
+    fn create(&mut self, name: &str, len: u64) -> Result<(), WriteErr> {
+        self.inner.create(name, len)
+    }
+
+    fn write_at(&mut self, name: &str, off: u64, bytes: &[u8]) -> Result<(), WriteErr> {
+        self.inner.write_at(name, off, bytes)
     }
 }
 
