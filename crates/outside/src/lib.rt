@@ -4,6 +4,7 @@
 
 mod failures;
 mod files;
+mod host;
 mod lines;
 mod memory;
 mod printer;
@@ -11,6 +12,7 @@ mod reading;
 mod writing;
 
 pub use files::{ComposeFault, FileErr, Files, WriteErr};
+pub use host::{HostFiles, HostPrinter};
 pub use lines::{MemPrinter, SurePrinter};
 pub use memory::{MemFiles, SureFiles, TrickleFiles};
 pub use printer::{PrintErr, Printer};
