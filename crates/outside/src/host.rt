@@ -3,10 +3,9 @@ ghost use Rattle.outside.specs.Counts.{Counts, NoneFell, Rose};
 
 use crate::{FileErr, Files, PrintErr, Printer, WriteErr};
 use std::fs::{OpenFile, OpenOptions};
-use std::io;
 use std::io::{ErrorKind, Read, Seek, SeekFrom, Write};
 use std::marker::Model;
-use std::rt;
+use std::{io, rt};
 
 /// The real files, each by its path. They tell nothing of what they hold. Each call opens its file anew.
 #[derive(Drop)]
@@ -30,7 +29,9 @@ impl Model for Tally {
 }
 
 impl Tally {
-    fn new() -> Tally {
+    fn new() -> Tally
+        ensures { result ≡ record { faults = 0; absences = 0; ends = 0 } }
+    {
         Tally {
             faults: 0,
             absences: 0,
@@ -77,7 +78,9 @@ impl Tally {
 
 impl<R: rt::Files> HostFiles<R> {
     /// The files that the runtime reaches. Touches none.
-    pub fn new(rt: R) -> HostFiles<R> {
+    pub fn new(rt: R) -> HostFiles<R>
+        ensures { ⟦<HostFiles<R> as Files>⟧.counts result ≡ record { faults = 0; absences = 0; ends = 0 } }
+    {
         HostFiles {
             rt,
             tally: Tally::new(),
@@ -182,7 +185,9 @@ pub struct HostPrinter<R: Print> {
 
 impl<R: Print> HostPrinter<R> {
     /// The runtime's standard output. Writes nothing.
-    pub fn new(rt: R) -> HostPrinter<R> {
+    pub fn new(rt: R) -> HostPrinter<R>
+        ensures { ⟦<HostPrinter<R> as Printer>⟧.faults result ≡ 0 }
+    {
         HostPrinter { rt, faults: 0 }
     }
 }

@@ -18,3 +18,6 @@ pub use memory::{MemFiles, SureFiles, TrickleFiles};
 pub use printer::{PrintErr, Printer};
 pub use reading::{FillFault, fill};
 pub use writing::{TransferFault, transfer};
+
+#[cfg(test)]
+mod tests;

@@ -22,7 +22,8 @@ pub struct SureFiles {
 impl SureFiles {
     /// No file at all. Takes no memory.
     pub fn new(alloc: Global) -> SureFiles
-        ensures { (name : List ℕ) → ⟦<SureFiles as Files>⟧.file result name ≡ None }
+        ensures empty { (name : List ℕ) → ⟦<SureFiles as Files>⟧.file result name ≡ None }
+        ensures counts { ⟦<SureFiles as Files>⟧.counts result ≡ record { faults = 0; absences = 0; ends = 0 } }
     {
         SureFiles {
             alloc,
@@ -122,6 +123,7 @@ impl MemFiles {
     /// No file at all, and no call that fails. Takes no memory.
     pub fn new(alloc: Global) -> MemFiles
         ensures empty { (name : List ℕ) → ⟦<MemFiles as Files>⟧.file result name ≡ None }
+        ensures counts { ⟦<MemFiles as Files>⟧.counts result ≡ record { faults = 0; absences = 0; ends = 0 } }
         ensures calls { calls_of result ≡ unused }
     {
         MemFiles {
