@@ -1,3 +1,4 @@
 -- lemmas
+mod LineLemmas
 mod ReadLemmas
 mod WriteLemmas

@@ -3,6 +3,8 @@ ghost use Rattle.base_fields.specs.Fields.{written};
 ghost use Rattle.outside.specs.Counts.{Counts, NoneFell, Rose};
 ghost use Rattle.outside.specs.Files.{Tree, IsThere, IsLengthOf, IsReadOf, OthersStay, bytes_of};
 
+use std::alloc::{AllocError, AllocFailed};
+
 /// Why a file's length or bytes were not given.
 #[derive(Clone, Copy, Debug, PartialEq, Eq)]
 pub enum FileErr {
@@ -19,6 +21,28 @@ pub enum WriteErr {
     Failed,
     /// Memory was refused.
     NoMemory,
+}
+
+impl From<AllocError> for WriteErr {
+    ghost use Rattle.std.specs.Prelude.{◌≡◌};
+    ghost use Rattle.outside.specs.declared.files.WriteErr.TheVariants.{NoMemory};
+
+    ghost from_gives = { λ _ e. e ≡ NoMemory };
+
+    fn from(_: AllocError) -> WriteErr {
+        WriteErr::NoMemory
+    }
+}
+
+impl<T: Drop> From<AllocFailed<T>> for WriteErr {
+    ghost use Rattle.std.specs.Prelude.{◌≡◌};
+    ghost use Rattle.outside.specs.declared.files.WriteErr.TheVariants.{NoMemory};
+
+    ghost from_gives = { λ _ e. e ≡ NoMemory };
+
+    fn from(_: AllocFailed<T>) -> WriteErr {
+        WriteErr::NoMemory
+    }
 }
 
 /// Why an image was not made of its parts.

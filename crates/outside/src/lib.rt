@@ -2,12 +2,22 @@
 //! and its counts, as objects in memory, and as adapters of the host.
 #![tactic(auto)]
 
+mod failures;
 mod files;
+mod host;
+mod lines;
+mod memory;
 mod printer;
 mod reading;
 mod writing;
 
 pub use files::{ComposeFault, FileErr, Files, WriteErr};
+pub use host::{HostFiles, HostPrinter};
+pub use lines::{MemPrinter, SurePrinter};
+pub use memory::{MemFiles, SureFiles, TrickleFiles};
 pub use printer::{PrintErr, Printer};
 pub use reading::{FillFault, fill};
 pub use writing::{TransferFault, transfer};
+
+#[cfg(test)]
+mod tests;
