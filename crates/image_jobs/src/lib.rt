@@ -7,3 +7,6 @@ mod running;
 mod small_text;
 
 pub use running::run;
+
+#[cfg(test)]
+mod tests;
