@@ -1,0 +1,6 @@
+-- lemmas
+mod Editing
+mod Replacing
+mod Searching
+mod Spans
+mod Touching
