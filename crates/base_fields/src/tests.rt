@@ -17,6 +17,14 @@ fn small_types_keep_what_they_are_given(rt: HostRuntime) -> Result<(), Fail> {
     assert_eq!(rt; list.as_slice(), [6, 5].as_slice());
     assert_eq!(rt; list.get(1), Some(&5));
     assert_eq!(rt; list.get(2), None);
+    assert!(rt; !list.is_empty());
+    let taken = List::from_vec([7, 8].to_vec(alloc)?);
+    assert_eq!(rt; taken.as_slice(), [7, 8].as_slice());
+    assert_eq!(rt; Bytes::from_vec([9].to_vec(alloc)?).bytes(), [9].as_slice());
+    assert_eq!(rt;
+        Name::from_string(String::from_str(alloc, "q")?).text(),
+        "q"
+    );
     Ok(())
 }
 
