@@ -1,5 +1,5 @@
 -- What an insertion and a cut leave of a cover.
-use Rattle.std.proofs.Common.{◌≡◌, ℕ, ◌+◌, ◌^◌, ◌<◌, ◌≤◌, List, [], ◌∷◌, ◌++◌, length, take, drop, Bool, true, false, not, ◌||◌, ◌&&◌, inl, inr, refl, sym, ◌∙◌, arith}
+use Rattle.std.proofs.Common.{◌≡◌, ℕ, ◌+◌, ◌-◌, ◌^◌, ◌<◌, ◌≤◌, List, [], ◌∷◌, ◌++◌, length, take, drop, Bool, true, false, not, ◌||◌, ◌&&◌, inl, inr, refl, sym, ◌∙◌, arith, length-append, length-drop, length-take}
 use Rattle.std.proofs.lemmas.Bool.{cases_lt}
 use Rattle.std.specs.List.Sorted.{IsPartitionPoint}
 use Rattle.std.specs.Prelude.{Result, Ok, Err, OnOk, OnErr}
@@ -71,3 +71,8 @@ HasLess-none old s from low high o = apart_test (covers old o) (has s o) (λ c o
       | inl before ↦ let early : it.span.at + it.span.len < s.at + 1 = rw (← it.is it.span) (low.0 it.place it.span (omega arith) before) in omega (arith, it.high)
       | inr behind ↦ let late : s.at + s.len ≤ it.span.at = rw (← it.is it.span) (high.1 it.place it.span behind it.within) in omega (arith, it.low)
     ])
+
+-- how many spans there are then
+pub length-replaced : (old by : List Span) (from to : ℕ) → from ≤ to → to ≤ length old → length ((take from old ++ by) ++ drop to old) + (to - from) ≡ length old + length by
+length-replaced old by from to le within =
+    omega (arith, length-append (take from old ++ by) (drop to old), length-append (take from old) by, length-take from old, length-drop to old)

@@ -4,3 +4,4 @@ mod Replacing
 mod Searching
 mod Spans
 mod Touching
+mod Unique

@@ -81,7 +81,7 @@ apart_take n spans h = record {
       rw (get_or-take n spans i d (omega arith), get_or-take n spans j d within.0) (h.apart i j d before within.1);
 }
 
-apart_drop : (n : ℕ) (spans : List Span) → AreApart spans → AreApart (drop n spans)
+pub apart_drop : (n : ℕ) (spans : List Span) → AreApart spans → AreApart (drop n spans)
 apart_drop n spans h = record {
   filled = All-drop (λ s. 0 < s.len) n spans h.filled;
   apart = λ i j d before below. rw (get_or-drop n spans i d, get_or-drop n spans j d) (h.apart (n + i) (n + j) d (omega arith) (below_drop n j spans below));

@@ -1,7 +1,7 @@
-ghost use Rattle.std.specs.Prelude.{◌≡◌, ℕ, ◌+◌, ◌^◌, ◌<◌, ◌≤◌, ◌≢◌, ◌↔◌, IsTrue, OnOk, OnErr, IfOk, []};
+ghost use Rattle.std.specs.Prelude.{◌≡◌, ℕ, ◌+◌, ◌^◌, ◌<◌, ◌≤◌, ◌≢◌, ◌↔◌, IsTrue, OnOk, OnErr, IfOk, [], length};
 ghost use Rattle.std.specs.Prelude.{List as list_of};
 ghost use Rattle.base_fields.specs.declared.spans.Span.{Span as span_of};
-ghost use Rattle.span_cover.specs.Cover.{IsCover, HasMore, HasLess, Meets, AreTouchedRuns};
+ghost use Rattle.span_cover.specs.Cover.{AreApart, IsCover, covers, HasMore, HasLess, Meets, AreTouchedRuns};
 
 use crate::blocks::blocks_of;
 use crate::places::{cut, insert, meets};
@@ -34,10 +34,11 @@ impl Cover {
         }
     }
 
-    /// The spans in order.
+    /// The spans in order: the one list of this set whose spans are not empty and have gaps between them.
     pub fn spans(&self) -> &[Span]
         ensures value { result.now ≡ self.now }
         ensures cover { IsCover self.now }
+        ensures only { (other : list_of span_of) → AreApart other → ((o : ℕ) → covers other o ≡ covers self.now o) → other ≡ self.now }
     {
         self.spans.as_slice()
     }
@@ -46,6 +47,7 @@ impl Cover {
     pub fn add(&mut self, span: Span) -> Result<(), NoMemory>
         requires { span.at + span.len ≤ 2 ^ 44 }
         ensures ok { OnOk result (HasMore self.old span self.new) }
+        ensures few { length self.new ≤ length self.old + 1 }
         ensures err { OnErr result (self.new ≡ self.old) }
     {
         insert(&mut self.spans, span)
@@ -55,6 +57,7 @@ impl Cover {
     pub fn take_out(&mut self, span: Span) -> Result<(), NoMemory>
         requires { span.at + span.len ≤ 2 ^ 44 }
         ensures ok { OnOk result (HasLess self.old span self.new) }
+        ensures few { length self.new ≤ length self.old + 1 }
         ensures err { OnErr result (self.new ≡ self.old) }
     {
         cut(&mut self.spans, span)
@@ -72,7 +75,8 @@ impl Cover {
     /// their count. `block` is the size of a block.
     pub fn runs(&self, alloc: Global, size: u64, block: u32) -> Result<List<Span>, NoMemory>
         requires { block ≢ 0 }
-        ensures { IfOk result (λ runs. AreTouchedRuns self.now size block runs) }
+        ensures touched { IfOk result (λ runs. AreTouchedRuns self.now size block runs) }
+        ensures few { IfOk result (λ runs. length runs ≤ length self.now) }
     {
         let mut runs = Vec::new(alloc);
         for span in &self.spans {

@@ -9,6 +9,7 @@ pub fn insert(spans: &mut Vec<Span>, span: Span) -> Result<(), NoMemory>
     requires cover { IsCover spans.old.items }
     requires bounded { span.at + span.len ≤ 2 ^ 44 }
     ensures cover { IsCover spans.new.items }
+    ensures few { length spans.new.items ≤ length spans.old.items + 1 }
     ensures ok { OnOk result (HasMore spans.old.items span spans.new.items) }
     ensures err { OnErr result (spans.new.items ≡ spans.old.items) }
 {
@@ -25,6 +26,7 @@ pub fn cut(spans: &mut Vec<Span>, span: Span) -> Result<(), NoMemory>
     requires cover { IsCover spans.old.items }
     requires bounded { span.at + span.len ≤ 2 ^ 44 }
     ensures cover { IsCover spans.new.items }
+    ensures few { length spans.new.items ≤ length spans.old.items + 1 }
     ensures ok { OnOk result (HasLess spans.old.items span spans.new.items) }
     ensures err { OnErr result (spans.new.items ≡ spans.old.items) }
 {
@@ -129,6 +131,7 @@ fn filled(sides: &[Span; 2]) -> &[Span]
     requires { AllPairs (λ a b. a.at + a.len < b.at) sides.now }
     ensures exact { (o : ℕ) → covers result.now o ≡ covers sides.now o }
     ensures apart { AreApart result.now }
+    ensures few { length result.now ≤ 2 }
 {
     match (sides[0].len, sides[1].len) {
         (0, 0) => &[],

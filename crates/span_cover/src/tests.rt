@@ -8,11 +8,32 @@ use std::test::Fail;
 fn cover_of_two_spans(rt: HostRuntime) -> Result<(), Fail> {
     let mut cover = Cover::new(rt.alloc());
     cover.add(Span { at: 0, len: 10_000 })?;
-    cover.take_out(Span { at: 100, len: 8_092 })?;
-    assert_eq!(rt; cover.spans(), [Span { at: 0, len: 100 }, Span { at: 8_192, len: 1_808 }].as_slice());
-    assert!(rt; !cover.meets(Span { at: 100, len: 8_092 }));
+    cover.take_out(Span {
+        at: 100,
+        len: 8_092,
+    })?;
+    assert_eq!(rt;
+        cover.spans(),
+        [
+            Span { at: 0, len: 100 },
+            Span {
+                at: 8_192,
+                len: 1_808
+            }
+        ]
+        .as_slice()
+    );
+    assert!(rt;
+        !cover.meets(Span {
+            at: 100,
+            len: 8_092
+        })
+    );
     let runs = cover.runs(rt.alloc(), 10_000, 4_096)?;
-    assert_eq!(rt; runs.as_slice(), [Span { at: 0, len: 1 }, Span { at: 2, len: 1 }].as_slice());
+    assert_eq!(rt;
+        runs.as_slice(),
+        [Span { at: 0, len: 1 }, Span { at: 2, len: 1 }].as_slice()
+    );
     Ok(())
 }
 
@@ -38,7 +59,12 @@ fn is_touched(flags: &[bool], size: u64, block: u32, b: u64) -> bool {
 }
 
 // The spans or, where a block is larger than an offset, the runs, one offset after the other.
-fn slow_runs(alloc: Global, flags: &[bool], size: u64, block: u32) -> Result<Vec<Span>, AllocError> {
+fn slow_runs(
+    alloc: Global,
+    flags: &[bool],
+    size: u64,
+    block: u32,
+) -> Result<Vec<Span>, AllocError> {
     let mut runs: Vec<Span> = Vec::new(alloc);
     let mut run = Span { at: 0, len: 0 };
     for b in 0..20 {

@@ -1,7 +1,7 @@
-use Rattle.std.proofs.Common.{List, ◌∙◌, sym}
+use Rattle.std.proofs.Common.{arith, length, ◌≤◌, ◌+◌, List, ◌∙◌, sym}
 use Rattle.base_fields.specs.declared.spans.Span.{Span}
 use Rattle.span_cover.specs.Cover.{HasLess, IsCover}
-use Rattle.span_cover.proofs.Editing.{HasLess-cut, HasLess-none, IsCover-cut, on_ok, settled}
+use Rattle.span_cover.proofs.Editing.{HasLess-cut, HasLess-none, IsCover-cut, length-replaced, on_ok, settled}
 use Rattle.span_cover.proofs.places.cut.Goals as goal
 
 pub returns-then-from-to-clause-ok : goal.returns-then-from-to-clause-ok
@@ -29,3 +29,10 @@ returns-clause-ok c =
     on_ok c.replace.result (HasLess old c.args.span) c.replace.new.spans.items _ c.replace.ensures.ok
     (HasLess-cut old c.filled.result.now c.args.span c.between-from.result.0 c.between-from.result.1 order.0 low high
     (λ o. c.filled.ensures.exact o ∙ sides o))
+
+pub returns-clause-few : goal.returns-clause-few
+returns-clause-few c =
+    let old : List Span = c.args.spans.now.items in
+    let order = rw c.deref.ensures.value at c.between-from.ensures.ordered in
+    settled c.replace.result (λ l. length l ≤ length old + 1) old c.replace.new.spans.items _ c.replace.ensures.ok c.replace.ensures.err (omega arith)
+    (omega (arith, order.0, c.if-from-to.false, c.filled.ensures.few, length-replaced old c.filled.result.now c.between-from.result.0 c.between-from.result.1 order.0 order.1))

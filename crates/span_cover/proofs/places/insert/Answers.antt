@@ -1,7 +1,7 @@
-use Rattle.std.proofs.Common.{List}
+use Rattle.std.proofs.Common.{arith, length, ◌≤◌, ◌+◌, List, [], ◌∷◌}
 use Rattle.base_fields.specs.declared.spans.Span.{Span}
 use Rattle.span_cover.specs.Cover.{HasMore, IsCover}
-use Rattle.span_cover.proofs.Editing.{HasMore-inserted, IsCover-inserted, on_ok, settled}
+use Rattle.span_cover.proofs.Editing.{HasMore-inserted, IsCover-inserted, length-replaced, on_ok, settled}
 use Rattle.span_cover.proofs.places.insert.Goals as goal
 
 pub returns-clause-cover : goal.returns-clause-cover
@@ -21,3 +21,10 @@ returns-clause-ok c =
     let order = rw c.deref.ensures.value at c.between-from.ensures.ordered in
     on_ok c.replace.result (HasMore old c.args.span) c.replace.new.spans.items _ c.replace.ensures.ok
     (HasMore-inserted old c.args.span c.hull-whole.result c.between-from.result.0 c.between-from.result.1 order.0 exact)
+
+pub returns-clause-few : goal.returns-clause-few
+returns-clause-few c =
+    let old : List Span = c.args.spans.now.items in
+    let order = rw c.deref.ensures.value at c.between-from.ensures.ordered in
+    settled c.replace.result (λ l. length l ≤ length old + 1) old c.replace.new.spans.items _ c.replace.ensures.ok c.replace.ensures.err (omega arith)
+    (omega (arith, length-replaced old (c.hull-whole.result ∷ []) c.between-from.result.0 c.between-from.result.1 order.0 order.1))
