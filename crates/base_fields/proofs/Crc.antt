@@ -12,7 +12,7 @@ binary zero h = inl refl
 binary (suc zero) h = inr refl
 binary (suc (suc r)) h = absurd (omega arith)
 
-parity : (n : ℕ) → (n % 2 ≡ 0) ⊎ (n % 2 ≡ 1)
+pub parity : (n : ℕ) → (n % 2 ≡ 0) ⊎ (n % 2 ≡ 1)
 parity n = binary (n % 2) (omega arith)
 
 -- the lowest bit of `a ^ b`

@@ -1,5 +1,6 @@
 -- lemmas
 mod Crc
+mod CrcTable
 mod Guid
 mod Multiples
 mod Writes

@@ -1,5 +1,5 @@
 -- Bytes at places: what a write leaves, and which byte stands at an offset of a format.
-use Rattle.std.specs.Prelude.{ℕ, ◌+◌, ◌-◌, List, [], ◌∷◌, ◌++◌, length, take, drop, nat_le, nat_lt, slice_index, Bool, ◌&&◌, if◌then◌else◌}
+use Rattle.std.specs.Prelude.{ℕ, zero, suc, ◌+◌, ◌-◌, ◌*◌, List, [], ◌∷◌, ◌++◌, length, take, drop, nat_le, nat_lt, slice_index, Bool, ◌&&◌, if◌then◌else◌}
 use Rattle.byteorder.specs.Endian.{little_bytes}
 
 -- the old bytes with these at that place, past the old end too
@@ -23,3 +23,8 @@ reaches f o = nat_le f.at o && nat_lt o (f.at + length f.bytes)
 abbrev pub byte_of : List Field → ℕ → ℕ
 byte_of [] o = 0
 byte_of (f ∷ fs) o = if reaches f o then slice_index f.bytes (o - f.at) else byte_of fs o
+
+-- the number in so many bytes of an image from an offset, the lowest first; an image is the byte at each offset
+abbrev pub number_at : (ℕ → ℕ) → ℕ → ℕ → ℕ
+number_at image o zero = 0
+number_at image o (suc width) = image o + 256 * number_at image (o + 1) width

@@ -1,4 +1,4 @@
-ghost use Rattle.std.specs.Prelude.{◌≡◌, ◌-◌, ◌*◌, ◌/◌, ◌^◌, ◌≤◌, ◌≢◌};
+ghost use Rattle.std.specs.Prelude.{◌≡◌, ◌+◌, ◌-◌, ◌*◌, ◌/◌, ◌^◌, ◌<◌, ◌≤◌, ◌≢◌};
 ghost use Rattle.base_fields.specs.Numbers.{IsLeastMultiple, guid_order};
 
 /// The least multiple of `to` that isn't below `n`.
@@ -6,7 +6,8 @@ pub fn round_up(n: u64, to: u64) -> u64
     requires nonzero { to ≢ 0 }
     // The greatest multiple that a u64 holds isn't below n.
     requires fits { n ≤ (2 ^ 64 - 1) / to * to }
-    ensures { IsLeastMultiple n to result }
+    ensures least { IsLeastMultiple n to result }
+    ensures near { result < n + to }
 {
     n.next_multiple_of(to)
 }

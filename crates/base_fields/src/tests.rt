@@ -1,3 +1,6 @@
+ghost use Rattle.std.specs.Prelude.{◌≡◌};
+ghost use Rattle.base_fields.specs.Crc.{crc32_of, crc_step};
+
 use super::*;
 use std::test::Fail;
 
@@ -14,6 +17,14 @@ fn small_types_keep_what_they_are_given(rt: HostRuntime) -> Result<(), Fail> {
     assert_eq!(rt; list.as_slice(), [6, 5].as_slice());
     assert_eq!(rt; list.get(1), Some(&5));
     assert_eq!(rt; list.get(2), None);
+    assert!(rt; !list.is_empty());
+    let taken = List::from_vec([7, 8].to_vec(alloc)?);
+    assert_eq!(rt; taken.as_slice(), [7, 8].as_slice());
+    assert_eq!(rt; Bytes::from_vec([9].to_vec(alloc)?).bytes(), [9].as_slice());
+    assert_eq!(rt;
+        Name::from_string(String::from_str(alloc, "q")?).text(),
+        "q"
+    );
     Ok(())
 }
 
@@ -59,4 +70,37 @@ fn fields_are_read_back(rt: HostRuntime) {
     assert_eq!(rt; get_u16(&room, 1), 0x1234);
     assert_eq!(rt; get_u32(&room, 3), 0x5678_9ABC);
     assert_eq!(rt; get_u64(&room, 7), 0x0102_0304_0506_0708);
+}
+
+// The division a bit at a time.
+fn crc32_by_bits(bytes: &[u8]) -> u32
+    ensures { result ≡ crc32_of bytes.now }
+{
+    let mut remainder = u32::MAX;
+    for byte in bytes {
+        remainder = with_bits(remainder, *byte);
+    }
+    !remainder
+}
+
+fn with_bits(remainder: u32, byte: u8) -> u32
+    ensures { result ≡ crc_step remainder byte }
+{
+    let mut register = remainder ^ u32::from(byte);
+    for _ in 0..u8::BITS {
+        register = if register % 2 == 1 {
+            (register >> 1) ^ 0xEDB8_8320
+        } else {
+            register >> 1
+        };
+    }
+    register
+}
+
+#[test]
+fn table_divides_as_the_bits_do(rt: HostRuntime) {
+    let texts: [&[u8]; 5] = [&[], &[0], &[0xFF], b"EFI PART", &[0, 0, 0, 0, 0x80]];
+    for text in texts {
+        assert_eq!(rt; crc32(text), crc32_by_bits(text));
+    }
 }

@@ -1,18 +1,11 @@
-use Rattle.std.proofs.Common.{arith}
-use Rattle.base_fields.proofs.Crc.{crc_step-rounds, half_step-even, half_step-odd, rounds_next, rounds_none}
+use Rattle.std.proofs.Common.{◌≡◌, ◌∙◌, ◌%◌, ℕ, ap, refl, arith}
+use Rattle.std.specs.Prelude.{bit_and, bit_xor}
+use Rattle.std.proofs.lemmas.Nat.{and_mask}
+use Rattle.base_fields.proofs.CrcTable.{crc_step-table}
 use Rattle.base_fields.proofs.checksum.with_byte.Goals as goal
-use Rattle.base_fields.proofs.checksum.with_byte.Goals.{then-register-eq1, else-register-eq1}
-
-pub loop-preserved : goal.loop-preserved
-loop-preserved c =
-    let next = rounds_next c.loop.counter c.loop.register (omega arith) in
-    elim c.if-register-eq1.branch [
-      | then-register-eq1 w ↦ let odd = half_step-odd c.loop.register w.if-register-eq1.true in cc (c.loop.invariant, w.register-is)
-      | else-register-eq1 w ↦ let even = half_step-even c.loop.register w.if-register-eq1.false in cc (c.loop.invariant, w.register-is)
-    ]
 
 pub returns : goal.returns
 returns c =
-    let last = rounds_none c.loop.counter c.loop.register (omega arith) in
-    let whole = crc_step-rounds c.args.remainder c.args.byte (omega arith) (omega arith) in
-    cc (c.loop.invariant)
+    let table = crc_step-table c.args.remainder c.args.byte (omega arith) (omega arith) in
+    let low : bit_and (bit_xor c.args.remainder c.from.result) 255 ≡ bit_xor c.args.remainder c.args.byte % 256 = and_mask (bit_xor c.args.remainder c.from.result) 8 ∙ ap (λ (b : ℕ). bit_xor c.args.remainder b % 256) c.from.ensures in
+    rw (low, table) refl

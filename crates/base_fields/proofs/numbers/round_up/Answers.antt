@@ -8,5 +8,5 @@ next_multiple_of-requires-clause-fits c =
     let below : next_multiple_of c.args.n c.args.to ≤ (2 ^ 64 - 1) / c.args.to * c.args.to = fits_below c.args.n c.args.to _ c.requires.nonzero c.requires.fits in
     omega arith
 
-pub returns : goal.returns
-returns c = least_multiple c.args.n c.args.to _ c.requires.nonzero c.next_multiple_of.ensures.lower_bound c.next_multiple_of.ensures.upper_bound c.next_multiple_of.ensures.multiple
+pub returns-clause-least : goal.returns-clause-least
+returns-clause-least c = least_multiple c.args.n c.args.to _ c.requires.nonzero c.next_multiple_of.ensures.lower_bound c.next_multiple_of.ensures.upper_bound c.next_multiple_of.ensures.multiple
