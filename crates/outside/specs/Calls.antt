@@ -1,5 +1,5 @@
 -- Which calls of an object in memory fail.
-use Rattle.std.specs.Prelude.{ℕ, ◌+◌, ◌-◌, ◌^◌, ◌∷◌, ◌++◌, List, [], min}
+use Rattle.std.specs.Prelude.{◌≡◌, ℕ, ◌+◌, ◌-◌, ◌^◌, ◌∷◌, ◌++◌, List, [], min}
 
 -- the number of the next call, the numbers of those that fail, and how many have failed
 pub record Calls : Type 0 where
@@ -18,3 +18,8 @@ listing calls call = record calls { failing = calls.failing ++ call ∷ [] }
 -- one more, up to the greatest number of 64 bits
 abbrev pub more : ℕ → ℕ
 more n = min (n + 1) (2 ^ 64 - 1)
+
+-- a call takes the next number, and those that are listed stay
+pub record IsNext (old new : Calls) : Type 0 where
+  pub next : new.next ≡ more old.next
+  pub failing : new.failing ≡ old.failing

@@ -1,5 +1,5 @@
 ghost use Rattle.std.specs.Prelude.{◌≡◌, ◌≤◌, ◌<◌, ◌+◌, ◌^◌, ◌↔◌, ◌++◌, ◌∷◌, [], Some, None, IfOk, IsOk, OnOk, OnErr, IsTrue, Contains, length, sum, slice_get, option_copied, vec_len, vec_capacity};
-ghost use Rattle.outside.specs.Calls.{unused, listing, more};
+ghost use Rattle.outside.specs.Calls.{IsNext, unused, listing, more};
 ghost use Rattle.outside.specs.Counts.{Rose};
 ghost use Rattle.outside.specs.Lines.{Kept, pieces, taken, IsStored};
 ghost use Rattle.outside.specs.Printer.{added};
@@ -29,7 +29,7 @@ impl Model for MemPrinter {
 
 impl MemPrinter {
     /// No line, and room for lines of so many bytes, where each line takes its bytes and 8 more. All memory is
-    /// taken here: as many bytes for the lines, and as many for where they end.
+    /// taken here: so many bytes for the lines, and as many again for their lengths.
     pub fn new(alloc: Global, room: usize) -> Result<MemPrinter, NoMemory>
         ensures { IfOk result (λ p. p ≡ record { lines = []; room = room; calls = unused }) }
     {
@@ -76,6 +76,8 @@ impl Printer for MemPrinter {
         ensures failed { OnErr result (Rose self.old.calls.faults self.new.calls.faults) }
         ensures none_fell { self.old.calls.faults ≤ self.new.calls.faults }
         ensures err { OnErr result (Some self.new.lines ≡ Some self.old.lines) }
+        ensures numbered { IsNext self.old.calls self.new.calls }
+        ensures same_room { self.new.room ≡ self.old.room }
         ensures fits { IsOk result ↔ ((¬ Contains self.old.calls.failing self.old.calls.next) × (taken self.old.lines + length bytes.now + 8 ≤ self.old.room)) }
     {
         if self.failures.fails() {

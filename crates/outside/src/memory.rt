@@ -1,8 +1,9 @@
-ghost use Rattle.std.specs.Prelude.{◌≡◌, ◌<◌, ◌≤◌, ℕ, List, Some, None, option_map, option_copied, OnOk, OnErr, length, vec_len};
+ghost use Rattle.std.specs.Prelude.{◌≡◌, ◌<◌, ◌≤◌, ◌↔◌, ℕ, Contains, replicate, List, Some, None, option_map, option_copied, IfOk, OnOk, OnErr, IsErrOf, length, vec_len};
 ghost use Rattle.std.specs.BTreeMap.{get_by_text};
 ghost use Rattle.base_fields.specs.Fields.{written};
-ghost use Rattle.outside.specs.Calls.{unused, listing};
-ghost use Rattle.outside.specs.Files.{OthersStay, IsReadAt};
+ghost use Rattle.outside.specs.Calls.{IsNext, unused, listing};
+ghost use Rattle.outside.specs.Counts.{NoneFell, Rose};
+ghost use Rattle.outside.specs.Files.{OthersStay, IsReadAt, IsLengthOf, IsReadOf, IsThere, bytes_of};
 
 use crate::failures::Failures;
 use crate::{FileErr, Files, WriteErr};
@@ -38,6 +39,7 @@ impl SureFiles {
         ensures ok { OnOk result (⟦<SureFiles as Files>⟧.file self.new name.now ≡ Some bytes.now) }
         ensures others { OthersStay name.now (⟦<SureFiles as Files>⟧.file self.old) (⟦<SureFiles as Files>⟧.file self.new) }
         ensures err { OnErr result (⟦<SureFiles as Files>⟧.file self.new ≡ ⟦<SureFiles as Files>⟧.file self.old) }
+        ensures same_counts { ⟦<SureFiles as Files>⟧.counts self.new ≡ ⟦<SureFiles as Files>⟧.counts self.old }
     {
         let copy = Vec::from_slice(self.alloc, bytes)?;
         self.set(name, copy)?;
@@ -58,7 +60,7 @@ impl SureFiles {
         ensures ok { OnOk result (⟦<SureFiles as Files>⟧.file self.new name.now ≡ Some bytes.items) }
         ensures others { OthersStay name.now (⟦<SureFiles as Files>⟧.file self.old) (⟦<SureFiles as Files>⟧.file self.new) }
         ensures err { OnErr result (⟦<SureFiles as Files>⟧.file self.new ≡ ⟦<SureFiles as Files>⟧.file self.old) }
-        ensures same { (self.new.absences ≡ self.old.absences) × (self.new.ends ≡ self.old.ends) }
+        ensures same_counts { ⟦<SureFiles as Files>⟧.counts self.new ≡ ⟦<SureFiles as Files>⟧.counts self.old }
     {
         let key = String::from_str(self.alloc, name)?;
         self.files.insert(key, bytes)?;
@@ -137,7 +139,8 @@ impl MemFiles {
         ensures ok { OnOk result (⟦<MemFiles as Files>⟧.file self.new name.now ≡ Some bytes.now) }
         ensures others { OthersStay name.now (⟦<MemFiles as Files>⟧.file self.old) (⟦<MemFiles as Files>⟧.file self.new) }
         ensures err { OnErr result (⟦<MemFiles as Files>⟧.file self.new ≡ ⟦<MemFiles as Files>⟧.file self.old) }
-        ensures calls { calls_of self.new ≡ calls_of self.old }
+        ensures same_counts { ⟦<MemFiles as Files>⟧.counts self.new ≡ ⟦<MemFiles as Files>⟧.counts self.old }
+        ensures same_calls { calls_of self.new ≡ calls_of self.old }
     {
         self.files.put(name, bytes)?;
         Ok(())
@@ -149,6 +152,7 @@ impl MemFiles {
         ensures ok { OnOk result (calls_of self.new ≡ listing (calls_of self.old) call) }
         ensures err { OnErr result (calls_of self.new ≡ calls_of self.old) }
         ensures same_files { ⟦<MemFiles as Files>⟧.file self.new ≡ ⟦<MemFiles as Files>⟧.file self.old }
+        ensures same_counts { ⟦<MemFiles as Files>⟧.counts self.new ≡ ⟦<MemFiles as Files>⟧.counts self.old }
     {
         self.failures.list(call)?;
         Ok(())
@@ -163,34 +167,70 @@ impl MemFiles {
 }
 
 impl Files for MemFiles {
+    ghost use Rattle.outside.specs.Memory.{calls_of};
+
     ghost told = { Unit {0} };
 
     ghost file = { λ m. ⟦<SureFiles as Files>⟧.file m.files };
 
     ghost counts = { λ m. record (⟦<SureFiles as Files>⟧.counts m.files) { faults = m.failures.faults } };
 
-    fn length(&mut self, name: &str) -> Result<u64, FileErr> {
+    fn length(&mut self, name: &str) -> Result<u64, FileErr>
+        ensures none_fell { NoneFell (⟦<MemFiles as Files>⟧.counts self.old) (⟦<MemFiles as Files>⟧.counts self.new) }
+        ensures failed { IsErrOf result FileErr.Failed → Rose (⟦<MemFiles as Files>⟧.counts self.old).faults (⟦<MemFiles as Files>⟧.counts self.new).faults }
+        ensures missing { IsErrOf result FileErr.Missing → Rose (⟦<MemFiles as Files>⟧.counts self.old).absences (⟦<MemFiles as Files>⟧.counts self.new).absences }
+        ensures same_files { ⟦<MemFiles as Files>⟧.file self.new ≡ ⟦<MemFiles as Files>⟧.file self.old }
+        ensures exact { IsLengthOf (⟦<MemFiles as Files>⟧.file self.old name.now) result }
+        ensures numbered { IsNext (calls_of self.old) (calls_of self.new) }
+        ensures listed { IsErrOf result FileErr.Failed ↔ Contains (calls_of self.old).failing (calls_of self.old).next }
+    {
         if self.failures.fails() {
             return Err(FileErr::Failed);
         }
         self.files.length(name)
     }
 
-    fn read_at(&mut self, name: &str, off: u64, buf: &mut [u8]) -> Result<usize, FileErr> {
+    fn read_at(&mut self, name: &str, off: u64, buf: &mut [u8]) -> Result<usize, FileErr>
+        requires { 0 < length buf.old }
+        ensures none_fell { NoneFell (⟦<MemFiles as Files>⟧.counts self.old) (⟦<MemFiles as Files>⟧.counts self.new) }
+        ensures failed { IsErrOf result FileErr.Failed → Rose (⟦<MemFiles as Files>⟧.counts self.old).faults (⟦<MemFiles as Files>⟧.counts self.new).faults }
+        ensures missing { IsErrOf result FileErr.Missing → Rose (⟦<MemFiles as Files>⟧.counts self.old).absences (⟦<MemFiles as Files>⟧.counts self.new).absences }
+        ensures ended { result ≡ Ok 0 → Rose (⟦<MemFiles as Files>⟧.counts self.old).ends (⟦<MemFiles as Files>⟧.counts self.new).ends }
+        ensures within { IfOk result (λ n. n ≤ length buf.old) }
+        ensures same_files { ⟦<MemFiles as Files>⟧.file self.new ≡ ⟦<MemFiles as Files>⟧.file self.old }
+        ensures there { IsReadOf (⟦<MemFiles as Files>⟧.file self.old name.now) off buf.new result }
+        ensures numbered { IsNext (calls_of self.old) (calls_of self.new) }
+        ensures listed { IsErrOf result FileErr.Failed ↔ Contains (calls_of self.old).failing (calls_of self.old).next }
+    {
         if self.failures.fails() {
             return Err(FileErr::Failed);
         }
         self.files.read_at(name, off, buf)
     }
 
-    fn create(&mut self, name: &str, len: u64) -> Result<(), WriteErr> {
+    fn create(&mut self, name: &str, len: u64) -> Result<(), WriteErr>
+        ensures none_fell { NoneFell (⟦<MemFiles as Files>⟧.counts self.old) (⟦<MemFiles as Files>⟧.counts self.new) }
+        ensures failed { IsErrOf result WriteErr.Failed → Rose (⟦<MemFiles as Files>⟧.counts self.old).faults (⟦<MemFiles as Files>⟧.counts self.new).faults }
+        ensures others { OthersStay name.now (⟦<MemFiles as Files>⟧.file self.old) (⟦<MemFiles as Files>⟧.file self.new) }
+        ensures made { OnOk result (⟦<MemFiles as Files>⟧.file self.new name.now ≡ Some (replicate len 0)) }
+        ensures numbered { IsNext (calls_of self.old) (calls_of self.new) }
+        ensures listed { IsErrOf result WriteErr.Failed ↔ Contains (calls_of self.old).failing (calls_of self.old).next }
+    {
         if self.failures.fails() {
             return Err(WriteErr::Failed);
         }
         self.files.create(name, len)
     }
 
-    fn write_at(&mut self, name: &str, off: u64, bytes: &[u8]) -> Result<(), WriteErr> {
+    fn write_at(&mut self, name: &str, off: u64, bytes: &[u8]) -> Result<(), WriteErr>
+        requires { IsThere (⟦<MemFiles as Files>⟧.file self.old) name.now (off ≤ length (bytes_of (⟦<MemFiles as Files>⟧.file self.old) name.now)) }
+        ensures none_fell { NoneFell (⟦<MemFiles as Files>⟧.counts self.old) (⟦<MemFiles as Files>⟧.counts self.new) }
+        ensures failed { IsErrOf result WriteErr.Failed → Rose (⟦<MemFiles as Files>⟧.counts self.old).faults (⟦<MemFiles as Files>⟧.counts self.new).faults }
+        ensures others { OthersStay name.now (⟦<MemFiles as Files>⟧.file self.old) (⟦<MemFiles as Files>⟧.file self.new) }
+        ensures wrote { OnOk result (⟦<MemFiles as Files>⟧.file self.new name.now ≡ Some (written (bytes_of (⟦<MemFiles as Files>⟧.file self.old) name.now) off bytes.now)) }
+        ensures numbered { IsNext (calls_of self.old) (calls_of self.new) }
+        ensures listed { IsErrOf result WriteErr.Failed ↔ Contains (calls_of self.old).failing (calls_of self.old).next }
+    {
         if self.failures.fails() {
             return Err(WriteErr::Failed);
         }
@@ -215,7 +255,17 @@ impl<F: Files> Files for TrickleFiles<F> {
         self.inner.length(name)
     }
 
-    fn read_at(&mut self, name: &str, off: u64, buf: &mut [u8]) -> Result<usize, FileErr> {
+    fn read_at(&mut self, name: &str, off: u64, buf: &mut [u8]) -> Result<usize, FileErr>
+        requires { 0 < length buf.old }
+        ensures none_fell { NoneFell (F.counts self.old.inner) (F.counts self.new.inner) }
+        ensures failed { IsErrOf result FileErr.Failed → Rose (F.counts self.old.inner).faults (F.counts self.new.inner).faults }
+        ensures missing { IsErrOf result FileErr.Missing → Rose (F.counts self.old.inner).absences (F.counts self.new.inner).absences }
+        ensures ended { result ≡ Ok 0 → Rose (F.counts self.old.inner).ends (F.counts self.new.inner).ends }
+        ensures within { IfOk result (λ n. n ≤ length buf.old) }
+        ensures same_files { F.file self.new.inner ≡ F.file self.old.inner }
+        ensures there { F.told → IsReadOf (F.file self.old.inner name.now) off buf.new result }
+        ensures one { IfOk result (λ n. n ≤ 1) }
+    {
         self.inner.read_at(name, off, &mut buf[..1])
     }
 
