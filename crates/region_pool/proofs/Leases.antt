@@ -41,3 +41,6 @@ other_bytes l p slot bytes d = get_or-set_other p.slots slot l.slot _ [] d
 pub own_bytes : (l : Held) (p : Buffers) (bytes : List ℕ) → IsLeaseOf l p → length bytes ≡ p.size → bytes_at (with_bytes p l.slot bytes) l.slot ≡ bytes
 own_bytes l p bytes h long =
     get_or-set_same p.slots l.slot _ [] h.there ∙ take_at bytes (drop (length bytes) (bytes_at p l.slot)) p.size long
+
+-- for the goals of a caller that holds several leases
+pub ruleset leases = (still_leased, still_leased_on, leased_after, apart, apart_from, own_bytes, other_bytes)

@@ -11,6 +11,7 @@ use std::marker::Model;
 const MOST: usize = 64;
 
 /// The right to one buffer of a pool, from [`Pool::lease`] on. It can't be dropped: [`Pool::give`] takes it back.
+/// That a lease is of another pool with the same tag isn't noticed.
 pub struct Lease {
     tag: u32,
     slot: u32,
@@ -30,7 +31,7 @@ pub struct Pool {
     tag: u32,
     size: u32,
     buffers: Vec<BytesMut>,
-    out: [bool; 64],
+    out: [bool; MOST],
 }
 
 impl Model for Pool {
@@ -129,7 +130,7 @@ impl Pool {
 }
 
 /// The marks of a new pool.
-fn none_out() -> [bool; 64]
+fn none_out() -> [bool; MOST]
     ensures { result ≡ replicate 64 false }
 {
     [false; MOST]
@@ -156,7 +157,7 @@ fn cut(alloc: Global, block: BytesMut, count: u32, size: u32) -> Result<Vec<Byte
     ensures { IfOk result (λ buffers. map contents buffers.items ≡ replicate count (replicate size 0)) }
 {
     let mut rest = block;
-    let mut buffers = Vec::new(alloc);
+    let mut buffers = Vec::with_capacity(alloc, count as usize)?;
     for _ in 0..count {
         let buffer = rest.split_to(size as usize)?;
         buffers.push(buffer)?;

@@ -58,7 +58,7 @@ fn refuses(pool: &mut Pool) -> bool
     }
 }
 
-#[tactic(auto, using(crate::proofs::Leases::still_leased, crate::proofs::Leases::leased_after, crate::proofs::Leases::still_leased_on, crate::proofs::Leases::apart_from))]
+#[tactic(auto, using(crate::proofs::Leases::leases))]
 #[test]
 fn three_leases_of_two_buffers(rt: HostRuntime) -> Result<(), Fail> {
     let mut pool = Pool::new(rt.alloc(), 0, 2, 16384)?;
