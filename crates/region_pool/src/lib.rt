@@ -1,0 +1,9 @@
+//! A pool of equal buffers: one block of memory, taken once, whose buffers are lent and given back by leases.
+#![tactic(auto)]
+
+mod pool;
+
+pub use pool::{Lease, Pool};
+
+#[cfg(test)]
+mod tests;
