@@ -1,0 +1,4 @@
+-- definitions that contracts cite
+pub mod Arguments
+pub mod Verbs
+pub mod Jobs
