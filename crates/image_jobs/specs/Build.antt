@@ -7,7 +7,10 @@ use Rattle.answer_lines.specs.declared.answer.Answer.{Answer}
 use Rattle.answer_lines.specs.declared.answer.Answer.TheVariants.{Usage, TooLong, TooFar, Missing, NotBuilt}
 use Rattle.image_jobs.specs.declared.small_text.SmallConf.{SmallConf}
 use Rattle.image_jobs.specs.Layout.{Layout, one_part}
+use Rattle.image_jobs.specs.declared.request.Request.{Request}
+use Rattle.image_jobs.specs.Request.{request_of}
 use Rattle.image_jobs.specs.SmallText.{meaning}
+use Rattle.job_words.specs.Jobs.{job_of}
 
 -- the bytes of all texts are at most these
 abbrev pub text_limit : ℕ
@@ -31,22 +34,17 @@ or_else (Some x) refusal = Ok x
 abbrev pub when : {A : Type 0} → Bool → A → Answer → Result A Answer
 when passes x refusal = if passes then Ok x else Err refusal
 
--- the configuration that the words `build CONF` name; CONF doesn't begin with a dash
-abbrev pub conf_of : List (List ℕ) → Option (List ℕ)
-conf_of (command ∷ conf ∷ []) = if bytes_eq command (codes "build") && not (starts_with nat_eq conf (codes "-")) then Some conf else None
-conf_of words = None
-
 -- the text of that name, or why it isn't read
 abbrev pub text_of : Tree → List ℕ → Result (List ℕ) Answer
 text_of file conf = do
   text ← or_else (file conf) (Missing conf)
   when (nat_le (length text) text_limit) text (TooLong (length text))
 
--- what the text of that name says, or why it says nothing
-abbrev pub said : Tree → List ℕ → Result SmallConf Answer
-said file conf = do
-  text ← text_of file conf
-  or_else (meaning conf text) (NotBuilt conf)
+-- what the request's configuration says, or why it says nothing
+abbrev pub said : Tree → Request → Result SmallConf Answer
+said file request = do
+  text ← text_of file request.conf
+  or_else (meaning request text) (NotBuilt request.conf)
 
 -- where the parts stand, or why they don't
 abbrev pub placed : Tree → SmallConf → Result Layout Answer
@@ -54,9 +52,11 @@ placed file conf = do
   source ← or_else (file conf.source) (Missing conf.source)
   when (nat_le (length source) size_limit) (one_part conf.image conf.source (length source)) (TooFar conf.part (length source) size_limit)
 
--- the layout that `build` is to make, or its refusal
+-- the layout that a request is to make, or its refusal
+abbrev pub asked : Option Request → Tree → Result Layout Answer
+asked None file = Err Usage
+asked (Some request) file = said file request >>= placed file
+
+-- the layout that the words ask for, or their refusal
 abbrev pub planned : List (List ℕ) → Tree → Result Layout Answer
-planned words file = do
-  conf ← or_else (conf_of words) Usage
-  small ← said file conf
-  placed file small
+planned words file = asked (request_of (job_of words)) file

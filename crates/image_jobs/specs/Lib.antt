@@ -1,6 +1,8 @@
 -- definitions that contracts cite
-pub mod SmallText
-pub mod Layout
 pub mod Build
+pub mod FullName
+pub mod Layout
+pub mod Request
 pub mod Run
+pub mod SmallText
 pub mod Stages

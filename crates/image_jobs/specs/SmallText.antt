@@ -8,7 +8,9 @@ use Rattle.std.specs.Prelude.{ℕ, ◌==◌, ◌||◌, ◌&&◌, Bool, not, nat_
 use Rattle.std.specs.Borrow.{Bor}
 use Rattle.std.specs.List.{prefix_len, starts_with}
 use Rattle.std.specs.Str.{bytes_eq}
+use Rattle.image_jobs.specs.declared.request.Request.{Request}
 use Rattle.image_jobs.specs.declared.small_text.SmallConf.{SmallConf}
+use Rattle.image_jobs.specs.FullName.{full_name}
 
 -- space, tab, line feed and carriage return
 abbrev pub is_space : ℕ → Bool
@@ -43,10 +45,6 @@ Reads (Some pair) found = found ≡ Some (pair.0.now, pair.1.now)
 abbrev pub ReadsTwo : Option (Bor (List ℕ) × Bor (List ℕ) × Bor (List ℕ)) → Option (List ℕ × List ℕ × List ℕ) → Type 0
 ReadsTwo None found = found ≡ None
 ReadsTwo (Some three) found = found ≡ Some (three.0.now, three.1.now, three.2.now)
-
-abbrev pub ReadsNames : Option (Bor (List ℕ) × Bor (List ℕ) × Bor (List ℕ)) → Option SmallConf → Type 0
-ReadsNames None found = found ≡ None
-ReadsNames (Some three) found = found ≡ Some (record { image = three.0.now; part = three.1.now; source = three.2.now })
 
 -- the longest run of such bytes at the front, and what is behind it
 abbrev pub cut : (ℕ → Bool) → List ℕ → List ℕ × List ℕ
@@ -108,14 +106,24 @@ part_of text = do
   rest ← mark_of 125 source.1
   Some (part.0, source.0, rest)
 
--- the image is neither the configuration nor its own source, and the partition's name has at most 36 characters
-abbrev pub is_built : List ℕ → SmallConf → Bool
-is_built conf c = nat_le (length c.part) 36 && not (bytes_eq c.image conf) && not (bytes_eq c.image c.source)
-
--- what the whole text says, in a configuration of that name
-abbrev pub meaning : List ℕ → List ℕ → Option SmallConf
-meaning conf text = do
+-- the names that the whole text says: of the image, of its partition, which has at most 36 characters, and of its file
+abbrev pub names_of : List ℕ → Option (List ℕ × List ℕ × List ℕ)
+names_of text = do
   image ← image_of text
   part ← part_of image.1
   rest ← mark_of 125 part.2
-  let said : SmallConf = record { image = image.0; part = part.0; source = part.1 } in provided (length (trimmed rest) == 0 && is_built conf said) said
+  provided (length (trimmed rest) == 0 && nat_le (length part.0) 36) (image.0, part.0, part.1)
+
+-- the image and the file by their full names
+abbrev pub placed_names : Request → List ℕ × List ℕ × List ℕ → SmallConf
+placed_names request names = record { image = full_name request.output names.0; part = names.1; source = full_name request.input names.2 }
+
+-- the image is neither the configuration nor its own source
+abbrev pub stands_alone : Request → SmallConf → Bool
+stands_alone request c = not (bytes_eq c.image request.conf) && not (bytes_eq c.image c.source)
+
+-- what the whole text says to a request
+abbrev pub meaning : Request → List ℕ → Option SmallConf
+meaning request text = do
+  names ← names_of text
+  provided (stands_alone request (placed_names request names)) (placed_names request names)

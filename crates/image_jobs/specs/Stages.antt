@@ -57,8 +57,3 @@ abbrev pub OnlyCounted : Answer → Type 0
 OnlyCounted FileFault = Unit {0}
 OnlyCounted NoMemory = Unit {0}
 OnlyCounted other = ⊥
-
--- an answer that takes memory to be made is it, or says so
-abbrev pub IsAnswerOf : Answer → Answer → Type 0
-IsAnswerOf wanted NoMemory = Unit {0}
-IsAnswerOf wanted got = got ≡ wanted

@@ -5,6 +5,7 @@ ghost use Rattle.image_jobs.specs.Build.{placed, said, text_of};
 ghost use Rattle.image_jobs.specs.Layout.{Built, one_part};
 ghost use Rattle.image_jobs.specs.Stages.{Counted, Gives, OnlyCounted, compose_answer, place_answer, text_answer};
 
+use crate::request::Request;
 use crate::small_text::{SmallConf, SmallFault, small_conf};
 use base_fields::Span;
 use outside::{ComposeFault, FileErr, Files, FillFault, TransferFault, WriteErr, fill, transfer};
@@ -75,16 +76,20 @@ fn read_text<F: Files>(alloc: Global, files: &mut F, conf: &str) -> Result<Vec<u
     }
 }
 
-/// What the text of that name says.
-pub fn read_conf<F: Files>(alloc: Global, files: &mut F, conf: &str) -> Result<SmallConf, TextFault>
+/// What the request's configuration says.
+pub fn read_conf<F: Files>(
+    alloc: Global,
+    files: &mut F,
+    request: &Request,
+) -> Result<SmallConf, TextFault>
     ensures none_fell { NoneFell (F.counts files.old) (F.counts files.new) }
-    ensures counted { IfErr result (λ fault. Counted (F.counts files.old) (F.counts files.new) (text_answer conf.now fault)) }
+    ensures counted { IfErr result (λ fault. Counted (F.counts files.old) (F.counts files.new) (text_answer request.now.conf fault)) }
     ensures same_files { F.file files.new ≡ F.file files.old }
-    ensures gives { F.told → Gives (said (F.file files.old) conf.now) (λ small. small) (text_answer conf.now) result }
+    ensures gives { F.told → Gives (said (F.file files.old) request.now) (λ small. small) (text_answer request.now.conf) result }
     ensures apart { IfOk result (λ small. small.image ≢ small.source) }
 {
-    let text = read_text(alloc, files, conf)?;
-    match small_conf(alloc, conf, &text) {
+    let text = read_text(alloc, files, request.conf.text())?;
+    match small_conf(alloc, request, &text) {
         Ok(small) => Ok(small),
         Err(SmallFault::NotBuilt) => Err(TextFault::NotBuilt),
         Err(SmallFault::NoMemory) => Err(TextFault::NoMemory),

@@ -3,6 +3,7 @@
 
 mod building;
 mod printing;
+mod request;
 mod running;
 mod small_text;
 

@@ -1,15 +1,17 @@
 ghost use Rattle.std.specs.Prelude.{◌≡◌, [], ◌∷◌, map, string_bytes, option_copied};
 ghost use Rattle.outside.specs.Counts.{NoneFell};
 ghost use Rattle.answer_lines.specs.Answer.{error_text};
-ghost use Rattle.image_jobs.specs.Build.{conf_of, planned};
+ghost use Rattle.image_jobs.specs.Build.{planned};
 ghost use Rattle.image_jobs.specs.Run.{Answers, Changes, HasBuilt, HasCause, IsRefusal, Prints, lines_of};
-ghost use Rattle.image_jobs.specs.Stages.{IsAnswerOf, compose_answer, place_answer, text_answer};
+ghost use Rattle.image_jobs.specs.Stages.{compose_answer, place_answer, text_answer};
 
 use crate::building::{PlaceFault, SIZE_LIMIT, TextFault, compose, place, read_conf};
 use crate::printing::{refuse, report_built};
+use crate::request::requested;
 use crate::small_text::SmallConf;
 use answer_lines::Answer;
 use base_fields::Name;
+use job_words::WordFault;
 use outside::{ComposeFault, Files, Printer};
 use std::alloc::Global;
 
@@ -34,12 +36,14 @@ pub fn run<F: Files, P: Printer>(
     // The line of a refusal is a matter of the answer alone.
     ensures refuses { IsRefusal result → Prints (error_text result ∷ []) (P.lines out.old) (P.lines out.new) (P.faults out.old) (P.faults out.new) }
 {
-    let Some(conf) = conf_word(words) else {
-        return refuse(Answer::Usage, out);
+    let request = match requested(alloc, words) {
+        Ok(request) => request,
+        Err(WordFault::Usage) => return refuse(Answer::Usage, out),
+        Err(WordFault::NoMemory) => return refuse(Answer::NoMemory, out),
     };
-    let small = match read_conf(alloc, files, conf) {
+    let small = match read_conf(alloc, files, &request) {
         Ok(small) => small,
-        Err(fault) => return refuse(answer_of_text(alloc, conf, fault), out),
+        Err(fault) => return refuse(answer_of_text(request.conf, fault), out),
     };
     let size = match place(files, &small) {
         Ok(size) => size,
@@ -51,25 +55,10 @@ pub fn run<F: Files, P: Printer>(
     report_built(small.image.text(), size, out)
 }
 
-// The configuration that the words name.
-fn conf_word(words: &Vec<String>) -> Option<&str>
-    ensures { option_copied result ≡ conf_of (map string_bytes words.now.items) }
-{
-    match words.as_slice() {
-        [command, conf] if command.as_str() == "build" && !conf.as_str().starts_with('-') => {
-            Some(conf.as_str())
-        }
-        _ => None,
-    }
-}
-
 // The answer of a text's fault, with the configuration's name.
-fn answer_of_text(alloc: Global, conf: &str, fault: TextFault) -> Answer
-    ensures { IsAnswerOf (text_answer conf.now fault) result }
+fn answer_of_text(name: Name, fault: TextFault) -> Answer
+    ensures { result ≡ text_answer name fault }
 {
-    let Ok(name) = Name::of(alloc, conf) else {
-        return Answer::NoMemory;
-    };
     match fault {
         TextFault::Missing => Answer::Missing { name },
         TextFault::FileFault => Answer::FileFault,

@@ -1,8 +1,9 @@
 ghost use Rattle.std.specs.Prelude.{◌≡◌, ◌≢◌, ◌≤◌, Some, None, length, option_copied, IfOk, IfSome, IsAscii, IsErrOf};
 ghost use Rattle.std.specs.List.{prefix_len};
 ghost use Rattle.std.specs.Option.{option_map_or};
-ghost use Rattle.image_jobs.specs.SmallText.{Reads, ReadsNames, ReadsTwo, bare_of, behind, cut, is_plain, is_space, is_word, image_of, keyword_of, mark_of, meaning, part_of, name_of, quoted_of, trimmed};
+ghost use Rattle.image_jobs.specs.SmallText.{Reads, ReadsTwo, bare_of, behind, cut, is_plain, is_space, is_word, image_of, keyword_of, mark_of, meaning, names_of, part_of, placed_names, name_of, quoted_of, trimmed};
 
+use crate::request::{Request, under};
 use base_fields::{Name, NoMemory};
 use std::alloc::Global;
 use std::str;
@@ -163,27 +164,26 @@ fn part(text: &[u8]) -> Option<(&[u8], &[u8], &[u8])>
 }
 
 // The three names of a whole text.
-fn names<'a>(conf: &[u8], text: &'a [u8]) -> Option<(&'a [u8], &'a [u8], &'a [u8])>
-    ensures reads { ReadsNames result (meaning conf.now text.now) }
+fn names(text: &[u8]) -> Option<(&[u8], &[u8], &[u8])>
+    ensures reads { ReadsTwo result (names_of text.now) }
     ensures ascii { IfSome result (λ found. IsAscii found.0.now × IsAscii found.1.now × IsAscii found.2.now) }
-    ensures apart { IfSome result (λ found. found.0.now ≢ found.2.now) }
 {
     let (image, rest) = image(text)?;
     let (part, source, rest) = part(rest)?;
     let rest = behind_mark(rest, b'}')?;
-    if !behind_space(rest).is_empty() || part.len() > 36 || image == conf || image == source {
+    if !behind_space(rest).is_empty() || part.len() > 36 {
         return None;
     }
     Some((image, part, source))
 }
 
-// The name that these bytes are.
-fn name_of_bytes(alloc: Global, bytes: &[u8]) -> Result<Name, NoMemory>
+// The text that these bytes are.
+fn text_of_bytes(bytes: &[u8]) -> &str
     requires { IsAscii bytes.now }
-    ensures { IfOk result (λ name. name ≡ bytes.now) }
+    ensures { result.now ≡ bytes.now }
 {
     match str::from_utf8(bytes) {
-        Ok(text) => Name::of(alloc, text),
+        Ok(text) => text,
         Err(_) => unreachable!(),
     }
 }
@@ -197,18 +197,41 @@ pub enum SmallFault {
     NoMemory,
 }
 
-/// What a text says, in the configuration of that name.
-pub fn small_conf(alloc: Global, conf: &str, text: &[u8]) -> Result<SmallConf, SmallFault>
-    ensures ok { IfOk result (λ said. meaning conf.now text.now ≡ Some said) }
+/// What a text says to a request.
+pub fn small_conf(alloc: Global, request: &Request, text: &[u8]) -> Result<SmallConf, SmallFault>
+    ensures ok { IfOk result (λ said. meaning request.now text.now ≡ Some said) }
     ensures apart { IfOk result (λ said. said.image ≢ said.source) }
-    ensures refused { IsErrOf result SmallFault.NotBuilt → meaning conf.now text.now ≡ None }
+    ensures refused { IsErrOf result SmallFault.NotBuilt → meaning request.now text.now ≡ None }
 {
-    let Some((image, part, source)) = names(conf.as_bytes(), text) else {
+    let Some((image, part, source)) = names(text) else {
         return Err(SmallFault::NotBuilt);
     };
+    let Ok(small) = full_names(alloc, request, image, part, source) else {
+        return Err(SmallFault::NoMemory);
+    };
+    let image = small.image.text();
+    if image == request.conf.text() || image == small.source.text() {
+        return Err(SmallFault::NotBuilt);
+    }
+    Ok(small)
+}
+
+// The names with those of the files in full.
+fn full_names(
+    alloc: Global,
+    request: &Request,
+    image: &[u8],
+    part: &[u8],
+    source: &[u8],
+) -> Result<SmallConf, NoMemory>
+    requires image { IsAscii image.now }
+    requires part { IsAscii part.now }
+    requires source { IsAscii source.now }
+    ensures { IfOk result (λ small. small ≡ placed_names request.now (image.now, part.now, source.now)) }
+{
     Ok(SmallConf {
-        image: name_of_bytes(alloc, image).map_err(|_| SmallFault::NoMemory)?,
-        part: name_of_bytes(alloc, part).map_err(|_| SmallFault::NoMemory)?,
-        source: name_of_bytes(alloc, source).map_err(|_| SmallFault::NoMemory)?,
+        image: under(alloc, &request.output, text_of_bytes(image))?,
+        part: Name::of(alloc, text_of_bytes(part))?,
+        source: under(alloc, &request.input, text_of_bytes(source))?,
     })
 }

@@ -1,0 +1,59 @@
+ghost use Rattle.std.specs.Prelude.{◌≡◌, map, string_bytes, IfOk, IsErrOf, None, Some, [], unwrap_or};
+ghost use Rattle.job_words.specs.Jobs.{job_of};
+ghost use Rattle.image_jobs.specs.FullName.{full_name};
+ghost use Rattle.image_jobs.specs.Request.{request_of};
+
+use base_fields::{Name, NoMemory};
+use job_words::{Job, WordFault, read_words};
+use std::alloc::Global;
+
+/// A build that the words ask for: its configuration, and the paths of its inputs and of its outputs, empty where
+/// none is given.
+#[derive(Debug, Drop)]
+pub struct Request {
+    pub conf: Name,
+    pub input: Name,
+    pub output: Name,
+}
+
+/// The build that the words ask for. Commands that aren't there yet are no words.
+pub fn requested(alloc: Global, words: &Vec<String>) -> Result<Request, WordFault>
+    ensures ok { IfOk result (λ asked. request_of (job_of (map string_bytes words.now.items)) ≡ Some asked) }
+    ensures usage { IsErrOf result WordFault.Usage → request_of (job_of (map string_bytes words.now.items)) ≡ None }
+{
+    match read_words(alloc, words)? {
+        Job::Build {
+            conf,
+            inputpath,
+            outputpath,
+        } => Ok(Request {
+            conf,
+            input: path(alloc, inputpath),
+            output: path(alloc, outputpath),
+        }),
+        _ => Err(WordFault::Usage),
+    }
+}
+
+// A path that may be given.
+fn path(alloc: Global, given: Option<Name>) -> Name
+    ensures { result ≡ unwrap_or given [] }
+{
+    given.unwrap_or(Name::from_string(String::new(alloc)))
+}
+
+/// The full name of a file under a path.
+pub fn under(alloc: Global, path: &Name, name: &str) -> Result<Name, NoMemory>
+    ensures { IfOk result (λ full. full ≡ full_name path.now name.now) }
+{
+    let path = path.text();
+    if name.starts_with('/') || path.is_empty() {
+        return Name::of(alloc, name);
+    }
+    let mut full = String::from_str(alloc, path)?;
+    if !path.ends_with('/') {
+        full.push_str("/")?;
+    }
+    full.push_str(name)?;
+    Ok(Name::from_string(full))
+}
