@@ -1,4 +1,5 @@
--- definitions that contracts cite
+-- definitions that contracts cite, and those of the fields below
+pub use Rattle.byteorder.specs.Endian
 pub mod Crc
 pub mod Fields
 pub mod Numbers
