@@ -49,6 +49,7 @@ fn link_entry(start: u32, next: &LogicalSpec) -> MbrEntry
 }
 
 /// The second entry of the record number `k`, which is empty in the last record.
+#[tactic(auto, using(std::proofs::lemmas::Option::gets))]
 fn second_entry(specs: &[LogicalSpec], k: usize) -> MbrEntry
     requires known { k < length specs.now }
     requires ascends { Ascends specs.now }
