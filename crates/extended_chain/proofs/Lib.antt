@@ -1,0 +1,4 @@
+-- lemmas
+mod Heads
+mod Bytes
+pub mod ReadsBack

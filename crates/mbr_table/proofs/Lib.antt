@@ -1,0 +1,4 @@
+-- lemmas on fields without gaps, on one slot, and on the whole record
+pub mod Runs
+pub mod SlotReads
+pub mod ReadsBack
