@@ -1,7 +1,5 @@
 -- What `build` answers over files that are told, in the order in which it looks for its refusals.
-use Rattle.std.specs.Prelude.{ℕ, ◌^◌, ◌&&◌, not, nat_eq, nat_le, List, [], ◌∷◌, length, codes, Option, Some, None, Result, Ok, Err, if◌then◌else◌, Bool}
-use Rattle.std.specs.List.{starts_with}
-use Rattle.std.specs.Str.{bytes_eq}
+use Rattle.std.specs.Prelude.{ℕ, ◌^◌, nat_le, List, length, Option, Some, None, Result, Ok, Err, if◌then◌else◌, Bool}
 use Rattle.outside.specs.Files.{Tree}
 use Rattle.answer_lines.specs.declared.answer.Answer.{Answer}
 use Rattle.answer_lines.specs.declared.answer.Answer.TheVariants.{Usage, TooLong, TooFar, Missing, NotBuilt}

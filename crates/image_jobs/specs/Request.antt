@@ -1,5 +1,5 @@
 -- What the words ask for of what is there today.
-use Rattle.std.specs.Prelude.{ℕ, List, [], Option, Some, None, unwrap_or}
+use Rattle.std.specs.Prelude.{[], Option, Some, None, unwrap_or}
 use Rattle.job_words.specs.declared.jobs.Job.{Job}
 use Rattle.job_words.specs.declared.jobs.Job.TheVariants as job
 use Rattle.image_jobs.specs.declared.request.Request.{Request}
