@@ -4,7 +4,7 @@ use Rattle.std.specs.Prelude.{option_and_then, option_map, codes, if◌then◌el
 use Rattle.clap.specs.Walk.{Row, Rule, Text, all_of, first_of}
 use Rattle.base_fields.specs.declared.names.Pair.{Pair}
 use Rattle.job_words.specs.Arguments.{all_differ, flag_rule, is_between, is_power_between, is_set, number_or, numeral_of, option_rule}
-use Rattle.job_words.specs.Arguments.{paired, passing, place_rule, repeated_rule, simple, taken, text_at}
+use Rattle.job_words.specs.Arguments.{paired, place_rule, repeated_rule, simple, taken, text_at}
 use Rattle.job_words.specs.Verbs.{verb_named}
 use Rattle.job_words.specs.declared.verbs.Verb.{Verb}
 use Rattle.job_words.specs.declared.verbs.Verb.TheVariants as verb
