@@ -1,4 +1,5 @@
 pub mod Numerals
+pub mod OnLiterals
 pub mod Pairs
 pub mod Reading
 pub mod Taken

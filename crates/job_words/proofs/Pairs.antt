@@ -1,12 +1,11 @@
 -- Lists of places.
-use Rattle.std.proofs.Common.{◌≡◌, ◌∙◌, ◌<◌, ◌&&◌, ◌+◌, ℕ, Bool, true, false, not, List, [], ◌∷◌, map, drop, suc, length, refl, ap, sym, arith, slice_index_or, drop-cons, add-one}
+use Rattle.std.proofs.Common.{◌≡◌, ◌<◌, Bool, List, [], ◌∷◌, map, length, refl, arith}
 use Rattle.std.specs.Borrow.{Bor}
 use Rattle.std.specs.List.{list_any}
 use Rattle.std.specs.Str.{bytes_eq}
-use Rattle.base_fields.specs.declared.names.Pair.{Pair}
 use Rattle.clap.proofs.WalkLemmas.{list_any-map}
 use Rattle.clap.specs.Walk.{Text}
-use Rattle.job_words.specs.Arguments.{all_differ, is_among, paired}
+use Rattle.job_words.specs.Arguments.{is_among, paired}
 
 pub paired_short : (places : List Text) → length places < 2 → paired places ≡ []
 paired_short [] h = refl

@@ -1,12 +1,11 @@
 -- The words by the command that the first names.
-use Rattle.std.proofs.Common.{◌≡◌, ◌∙◌, true, ap, map, refl, subst, sym, String, string_bytes, List, [], ◌∷◌, Option, Some, None, Result, Ok, Err}
+use Rattle.std.proofs.Common.{◌≡◌, ◌∙◌, true, ap, map, refl, subst, sym, String, string_bytes, List, [], ◌∷◌, Option, Some, None, Result, Err}
 use Rattle.std.specs.Prelude.{option_and_then, slice_get}
 use Rattle.clap.specs.Faults.{is_simple_and_free}
 use Rattle.clap.specs.Walk.{Row, Rule, Text}
 use Rattle.job_words.specs.Arguments.{flag_rule, option_rule, place_rule, repeated_rule, simple, taken}
 use Rattle.job_words.specs.Jobs.{Reads, arguments_of, job_by, job_from, job_of}
 use Rattle.job_words.specs.Verbs.{verb_named}
-use Rattle.job_words.specs.declared.jobs.Job.{Job}
 use Rattle.job_words.specs.declared.jobs.WordFault.{WordFault}
 use Rattle.job_words.specs.declared.jobs.WordFault.TheVariants.{Usage, NoMemory}
 use Rattle.job_words.specs.declared.verbs.Verb.{Verb}

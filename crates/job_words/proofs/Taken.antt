@@ -1,5 +1,5 @@
 -- What a simple command makes of words, from what a parse by it says.
-use Rattle.std.proofs.Common.{◌≡◌, ◌∙◌, ◌&&◌, ap, ap₂, refl, sym, Bool, true, false, List, [], ◌∷◌, Option, Some, None, inl, inr}
+use Rattle.std.proofs.Common.{◌≡◌, ◌&&◌, ap₂, refl, sym, Bool, true, false, List, [], ◌∷◌, Some, None, inl, inr}
 use Rattle.clap.specs.Walk.{Row, Text}
 use Rattle.clap.specs.Simple.{App, built, is_simple, matches_of}
 use Rattle.clap.specs.Faults.{fault_of, is_free_app, is_simple_and_free}

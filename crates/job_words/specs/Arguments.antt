@@ -58,7 +58,8 @@ is_set id rows = bytes_eq (text_at id rows) (codes "true")
 -- the number that a text of 1 to 20 decimal digits writes, where it fits 64 bits
 abbrev pub is_numeral : Text → Bool
 is_numeral text = list_all is_ascii_digit text
-    && (nat_le 1 (length text) && (nat_le (length text) 20 && nat_lt (digits_value 10 text) (2 ^ 64)))
+    && (nat_le 1 (length text)
+    && (nat_le (length text) 20 && nat_lt (digits_value 10 text) (2 ^ 64)))
 
 abbrev pub numeral_of : Text → Option ℕ
 numeral_of text = if is_numeral text then Some (digits_value 10 text) else None

@@ -1,10 +1,12 @@
 -- Which job the words of each command stand for.
-use Rattle.std.specs.Prelude.{◌≡◌, ℕ, Bool, ◌%◌, ◌==◌, ◌&&◌, nat_le, List, [], ◌∷◌, length, Option, Some, None, Result, Ok, Err}
+use Rattle.std.specs.Prelude.{◌≡◌, ℕ, Bool, ◌%◌, ◌==◌, ◌&&◌, nat_le, List, [], ◌∷◌, length, Option}
+use Rattle.std.specs.Prelude.{Some, None, Result, Ok, Err}
 use Rattle.std.specs.Prelude.{option_and_then, option_map, codes, if◌then◌else◌}
 use Rattle.clap.specs.Walk.{Row, Rule, Text, all_of, first_of}
 use Rattle.base_fields.specs.declared.names.Pair.{Pair}
-use Rattle.job_words.specs.Arguments.{all_differ, flag_rule, is_between, is_power_between, is_set, number_or, numeral_of, option_rule}
-use Rattle.job_words.specs.Arguments.{paired, passing, place_rule, repeated_rule, simple, taken, text_at}
+use Rattle.job_words.specs.Arguments.{all_differ, flag_rule, is_between, is_power_between, is_set}
+use Rattle.job_words.specs.Arguments.{number_or, numeral_of, option_rule}
+use Rattle.job_words.specs.Arguments.{paired, place_rule, repeated_rule, simple, taken, text_at}
 use Rattle.job_words.specs.Verbs.{verb_named}
 use Rattle.job_words.specs.declared.verbs.Verb.{Verb}
 use Rattle.job_words.specs.declared.verbs.Verb.TheVariants as verb
@@ -44,7 +46,8 @@ page_of rows = number_or 2048 (is_power_between 512 16384) (first_of (codes "pag
 
 abbrev pub build_arguments : List Rule
 build_arguments =
-    place_rule (codes "CONF") ∷ option_rule (codes "inputpath") ∷ option_rule (codes "outputpath") ∷ []
+    place_rule (codes "CONF") ∷ option_rule (codes "inputpath")
+    ∷ option_rule (codes "outputpath") ∷ []
 
 abbrev pub build_from : List Row → Option Job
 build_from rows = Some (job.Build (text_at (codes "CONF") rows) (first_of (codes "inputpath") rows)

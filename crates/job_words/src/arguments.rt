@@ -1,8 +1,11 @@
 //! The arguments of each command: its places in their order, and its options.
 ghost use Rattle.std.specs.Prelude.{◌≡◌, IfOk};
-ghost use Rattle.job_words.specs.Jobs.{arguments_of, build_arguments, copy_arguments, cut_arguments, demo_arguments};
-ghost use Rattle.job_words.specs.Jobs.{expand_arguments, forget_arguments, gang_arguments, list_arguments};
-ghost use Rattle.job_words.specs.Jobs.{map_arguments, nand_arguments, resume_arguments, verify_arguments};
+ghost use Rattle.job_words.specs.Jobs.{arguments_of, build_arguments, copy_arguments};
+ghost use Rattle.job_words.specs.Jobs.{cut_arguments, demo_arguments};
+ghost use Rattle.job_words.specs.Jobs.{expand_arguments, forget_arguments, gang_arguments};
+ghost use Rattle.job_words.specs.Jobs.{list_arguments};
+ghost use Rattle.job_words.specs.Jobs.{map_arguments, nand_arguments, resume_arguments};
+ghost use Rattle.job_words.specs.Jobs.{verify_arguments};
 
 use crate::given::Arguments;
 use crate::verbs::Verb;

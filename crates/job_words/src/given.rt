@@ -1,10 +1,13 @@
 //! The arguments that words may have, and what a simple `clap` command finds of them.
-ghost use Rattle.std.specs.Prelude.{◌≡◌, IfOk, List as list_of, codes, length, map, option_map, string_bytes, true, false, [], ◌∷◌, ◌++◌};
+ghost use Rattle.std.specs.Prelude.{◌≡◌, IfOk, List as list_of, map, option_map, string_bytes};
+ghost use Rattle.std.specs.Prelude.{true, false, [], ◌∷◌, ◌++◌};
 ghost use Rattle.clap.specs.Walk.{Row, Rule, all_of, first_of, rows_of, rule_of};
 ghost use Rattle.clap.specs.Simple.{app_of};
 ghost use Rattle.clap.specs.Matches.{found_of};
 ghost use Rattle.clap.specs.Faults.{is_simple_and_free};
-ghost use Rattle.job_words.specs.Arguments.{flag_rule, option_rule, place_rule, repeated_rule, simple, taken, text_at, is_set, is_between, is_power_between, number_or};
+ghost use Rattle.job_words.specs.Arguments.{flag_rule, option_rule, place_rule, repeated_rule};
+ghost use Rattle.job_words.specs.Arguments.{simple, taken, text_at, is_set, is_between};
+ghost use Rattle.job_words.specs.Arguments.{is_power_between, number_or};
 ghost use Rattle.job_words.specs.Jobs.{Reads};
 
 use crate::WordFault;
@@ -165,7 +168,8 @@ impl<'a> Given<'a> {
 
     /// The number of an option, which has to be a power of two from `least` to `most`.
     pub(crate) fn power(&self, id: &str, default: u32, least: u32, most: u32) -> Option<u32>
-        ensures { result ≡ number_or default (is_power_between least most) (first_of id.now self.now) }
+        ensures { result
+            ≡ number_or default (is_power_between least most) (first_of id.now self.now) }
     {
         match self.text(id) {
             Some(text) => power_between(text, least, most),

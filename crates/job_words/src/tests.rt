@@ -445,3 +445,13 @@ fn lists_of_places_end_at_their_limit(rt: HostRuntime) -> Result<(), Fail> {
     }
     Ok(())
 }
+
+#[test]
+fn faults_say_what_they_are(rt: HostRuntime) -> Result<(), Fail> {
+    let alloc = rt.alloc();
+    let usage = format!(in alloc; "{}", WordFault::Usage)?;
+    assert_eq!(rt; usage.as_str(), "no job has these words");
+    let memory = format!(in alloc; "{}", WordFault::NoMemory)?;
+    assert_eq!(rt; memory.as_str(), "out of memory");
+    Ok(())
+}

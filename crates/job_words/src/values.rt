@@ -1,8 +1,10 @@
 //! The job of each command, from what its arguments are given.
 ghost use Rattle.std.specs.Prelude.{◌≡◌};
 ghost use Rattle.job_words.specs.Jobs.{Reads, block_of, build_from, copy_from, cut_from, demo_from};
-ghost use Rattle.job_words.specs.Jobs.{ends_differ, erase_block_of, expand_from, forget_from, gang_from, gang_resume_from, job_from};
-ghost use Rattle.job_words.specs.Jobs.{list_from, map_from, nand_from, nand_places_differ, page_of, pairs_from, resume_from, unit_of, verify_from, window_of};
+ghost use Rattle.job_words.specs.Jobs.{ends_differ, erase_block_of, expand_from, forget_from};
+ghost use Rattle.job_words.specs.Jobs.{gang_from, gang_resume_from, job_from};
+ghost use Rattle.job_words.specs.Jobs.{list_from, map_from, nand_from, nand_places_differ, page_of};
+ghost use Rattle.job_words.specs.Jobs.{pairs_from, resume_from, unit_of, verify_from, window_of};
 
 use crate::given::Given;
 use crate::numbers::number;

@@ -1,5 +1,4 @@
 ghost use Rattle.std.specs.Prelude.{◌≡◌, find};
-ghost use Rattle.std.specs.Str.{bytes_eq};
 ghost use Rattle.job_words.specs.Verbs.{name_of, verb_named};
 
 /// A command, as the first word names it.

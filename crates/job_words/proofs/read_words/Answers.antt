@@ -1,4 +1,4 @@
-use Rattle.std.proofs.Common.{◌≡◌, ◌∙◌, ap, rules, sym, map, string_bytes, Option, Some, None}
+use Rattle.std.proofs.Common.{◌≡◌, rules, map, string_bytes, Some, None}
 use Rattle.std.specs.Prelude.{slice_get}
 use Rattle.job_words.specs.Jobs.{job_by}
 use Rattle.job_words.specs.Verbs.{verb_named}
