@@ -1,8 +1,8 @@
 -- The master boot record beside a GUID partition table: an entry that protects the table, and up to three partitions.
 use Rattle.std.specs.Prelude.{◌≡◌, ℕ, ◌+◌, ◌-◌, ◌*◌, ◌^◌, ◌<◌, ◌≤◌, min, List, [], ◌∷◌, false, length, slice_index_or}
-use Rattle.base_fields.specs.Fields.{Field, byte_of}
+use Rattle.base_fields.specs.Fields.{Field, byte_of, number_at}
 use Rattle.mbr_table.specs.Mbr.{no_entry, mbr_fields}
-use Rattle.mbr_table.specs.Reading.{EntryFits, IsMarked, number_at, slot_at}
+use Rattle.mbr_table.specs.Reading.{EntryFits, IsMarked, slot_at}
 use Rattle.mbr_table.specs.declared.mbr.MbrEntry.{MbrEntry}
 use Rattle.mbr_table.specs.declared.mbr.MbrSpec.{MbrSpec}
 

@@ -6,7 +6,8 @@ use Rattle.std.proofs.lemmas.List.{get_or_append_left, get_or-append-add}
 use Rattle.byteorder.specs.Endian.{little_bytes, little_number}
 use Rattle.byteorder.specs.Numbers.{little_number-reads_back}
 use Rattle.mbr_table.specs.Mbr.{entry_fields, is_empty, status_of, joined}
-use Rattle.mbr_table.specs.Reading.{EntryFits, number_at, slot_at}
+use Rattle.base_fields.specs.Fields.{number_at}
+use Rattle.mbr_table.specs.Reading.{EntryFits, slot_at}
 use Rattle.mbr_table.specs.declared.mbr.MbrEntry.{MbrEntry}
 
 -- an image that has these bytes from an offset on

@@ -1,14 +1,9 @@
 -- What the bytes of an image read as, an image being the byte at each offset. Nothing here knows how a table is written.
-use Rattle.std.specs.Prelude.{◌≡◌, ℕ, zero, suc, ◌+◌, ◌*◌, ◌^◌, ◌<◌, ◌≤◌, ◌==◌, true, false}
-use Rattle.base_fields.specs.Fields.{byte_of}
+use Rattle.std.specs.Prelude.{◌≡◌, ℕ, ◌+◌, ◌*◌, ◌^◌, ◌<◌, ◌≤◌, ◌==◌, true, false}
+use Rattle.base_fields.specs.Fields.{byte_of, number_at}
 use Rattle.mbr_table.specs.Mbr.{mbr_fields, entry_of, is_empty}
 use Rattle.mbr_table.specs.declared.mbr.MbrEntry.{MbrEntry}
 use Rattle.mbr_table.specs.declared.mbr.MbrSpec.{MbrSpec}
-
--- the number in so many bytes from an offset, the lowest first
-abbrev pub number_at : (ℕ → ℕ) → ℕ → ℕ → ℕ
-number_at image o zero = 0
-number_at image o (suc width) = image o + 256 * number_at image (o + 1) width
 
 -- the entry in the sixteen bytes from an offset: active exactly where the status is 80, and the addresses aren't looked at
 abbrev pub slot_at : (ℕ → ℕ) → ℕ → MbrEntry
