@@ -65,7 +65,7 @@ behind_dollar text = if name_len text == 0 then None else later (name_len text) 
 abbrev pub variable_len : List ℕ → Option ℕ
 variable_len text = later 2 (behind_dollar (drop 2 text))
 
--- a part of a bare word: a variable or a byte
+-- a part of a bare word, a variable or a byte
 abbrev pub word_part : List ℕ → Option ℕ
 word_part text = if begins text (codes "${") then variable_len text else Some 1
 
@@ -74,9 +74,9 @@ abbrev pub escape_len : List ℕ → Option ℕ
 escape_len [] = None
 escape_len (b ∷ rest) = if b == 34 || b == 92 || b == 110 || b == 116 then Some 2 else None
 
--- a part of a double-quoted text: a variable, an escape or a byte
+-- a part of a double-quoted text: an escape, a variable or a byte
 abbrev pub quoted_part : List ℕ → Option ℕ
-quoted_part text = if begins text (codes "${") then variable_len text else (if begins text (codes "\\") then escape_len (drop 1 text) else Some 1)
+quoted_part text = if begins text (codes "\\") then escape_len (drop 1 text) else word_part text
 
 -- a bare word ends before white space, a quote, a mark of one byte and `+=`
 abbrev pub ends_word : List ℕ → Bool

@@ -93,13 +93,10 @@ fn quoted_part_length(text: &[u8]) -> Option<usize>
     ensures there { result ≡ quoted_part text.now }
     ensures within { IfSome result (λ n. (0 < n) × (n ≤ length text.now)) }
 {
-    if text.starts_with(b"${") {
-        return variable_length(text);
-    }
     if text.starts_with(b"\\") {
         return escape_length(text.split_at(1).1);
     }
-    Some(1)
+    word_part_length(text)
 }
 
 // The length of the bare word at the front.

@@ -10,3 +10,6 @@ mod variables;
 
 pub use lexing::lex;
 pub use tokens::{LexFault, Token, TokenKind};
+
+#[cfg(test)]
+mod tests;
