@@ -1,0 +1,4 @@
+-- lemmas
+pub mod Steps
+pub mod Utf8
+pub mod Whole

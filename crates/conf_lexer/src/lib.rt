@@ -1,0 +1,15 @@
+//! The tokens of a configuration's text, or the first place that is no token.
+#![tactic(auto)]
+
+mod extents;
+mod lexing;
+mod marks;
+mod pieces;
+mod tokens;
+mod variables;
+
+pub use lexing::lex;
+pub use tokens::{LexFault, Token, TokenKind};
+
+#[cfg(test)]
+mod tests;
