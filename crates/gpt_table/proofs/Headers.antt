@@ -12,7 +12,7 @@ use Rattle.gpt_table.specs.Span.{bytes_at}
 use Rattle.gpt_table.specs.Runs.{joined}
 use Rattle.gpt_table.specs.Gpt.{header_byte, header_fields, header_sum}
 use Rattle.gpt_table.specs.declared.header.GptHeader.{GptHeader}
-use Rattle.gpt_table.proofs.Runs.{IsRun, byte_of-run}
+use Rattle.gpt_table.proofs.Runs.{IsRun, byte_of-run, byte_of-start}
 use Rattle.gpt_table.proofs.Slots.{length-guid, zeros_are_zero}
 use Rattle.gpt_table.proofs.Spans.{bytes_at-is}
 
@@ -29,8 +29,7 @@ length-header h sum sixteen =
 -- the byte at each offset of a header, also past its end
 pub header_byte_of : (h : GptHeader) (sum o : ℕ) → length h.disk ≡ 16 → byte_of (header_fields h sum) o ≡ get_or (joined (header_fields h sum)) o 0
 header_byte_of h sum o sixteen =
-    let at : o ≡ 0 + o = omega arith in
-    ap (byte_of (header_fields h sum)) at ∙ byte_of-run (header_fields h sum) 0 o (header_run h sum sixteen)
+    byte_of-start (header_fields h sum) o (header_run h sum sixteen)
 
 -- the 92 bytes that the sum is over
 pub header_bytes_at : (h : GptHeader) (sum : ℕ) → length h.disk ≡ 16 → bytes_at (byte_of (header_fields h sum)) 0 92 ≡ joined (header_fields h sum)

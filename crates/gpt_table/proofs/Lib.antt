@@ -3,3 +3,8 @@ pub mod Runs
 pub mod Slots
 pub mod Headers
 pub mod Spans
+pub mod Sums
+pub mod Held
+pub mod SlotReads
+pub mod HeaderReads
+pub mod ReadsBack

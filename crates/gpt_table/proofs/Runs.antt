@@ -32,6 +32,12 @@ byte_of-run (f ∷ fs) at o run = elim (cases_lt o (length f.bytes)) [
       rw (missed f at o run.0 past, moved) (byte_of-run fs (at + length f.bytes) (o - length f.bytes) run.1 ∙ sym (get_or-append_right f.bytes (joined fs) (length f.bytes) o 0 refl past))
 ]
 
+-- the same from offset 0 on
+pub byte_of-start : (fs : List Field) (o : ℕ) → IsRun 0 fs → byte_of fs o ≡ get_or (joined fs) o 0
+byte_of-start fs o run =
+    let at : o ≡ 0 + o = omega arith in
+    ap (byte_of fs) at ∙ byte_of-run fs 0 o run
+
 -- fields written one after another
 unfoldable pub filled : List Field → List ℕ → List ℕ
 filled [] room = room

@@ -11,7 +11,7 @@ use Rattle.gpt_table.proofs.Spans.{bytes_at-is}
 use Rattle.gpt_table.specs.Runs.{joined}
 use Rattle.gpt_table.specs.Gpt.{HasLengths, entry_fields, entries_byte, slot_byte, sum_of_entries}
 use Rattle.gpt_table.specs.declared.entry.GptEntry.{GptEntry}
-use Rattle.gpt_table.proofs.Runs.{IsRun, byte_of-run}
+use Rattle.gpt_table.proofs.Runs.{IsRun, byte_of-start}
 
 pub length-guid : (id : List ℕ) → length id ≡ 16 → length (guid_order id) ≡ 16
 length-guid (a ∷ b ∷ c ∷ d ∷ e ∷ f ∷ g ∷ h ∷ i ∷ j ∷ k ∷ l ∷ m ∷ n ∷ o ∷ p ∷ []) sixteen = refl
@@ -66,8 +66,7 @@ zeros_are_zero (suc n) (suc i) = zeros_are_zero n i
 
 slot_byte_of : (e : GptEntry) (j : ℕ) → HasLengths e → get_or (slot_bytes e) j 0 ≡ byte_of (entry_fields e) j
 slot_byte_of e j has =
-    let at : 0 + j ≡ j = omega arith in
-    sym (byte_of-run (entry_fields e) 0 j (entry_run e has)) ∙ ap (byte_of (entry_fields e)) at
+    sym (byte_of-start (entry_fields e) j (entry_run e has))
 
 -- the byte j of slot k
 slots_byte : (es : List GptEntry) (n k j : ℕ) → HaveLengths es → j < 128 → get_or (flat_map slot_bytes es ++ replicate n 0) (128 * k + j) 0 ≡ slot_byte (slice_get es k) j

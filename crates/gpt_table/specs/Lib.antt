@@ -5,3 +5,4 @@ pub use Rattle.base_fields.specs.Numbers
 pub mod Runs
 pub mod Span
 pub mod Gpt
+pub mod Reading

@@ -3,10 +3,12 @@
 
 mod entry;
 mod header;
+mod laws;
 mod table;
 
 pub use entry::GptEntry;
 pub use header::GptHeader;
+pub use laws::gpt_reads_back;
 pub use table::{GptHeads, GptSpec, gpt};
 
 #[cfg(test)]
