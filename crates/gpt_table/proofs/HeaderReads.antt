@@ -8,8 +8,8 @@ use Rattle.base_fields.specs.Fields.{byte_of, number_at}
 use Rattle.base_fields.specs.Numbers.{guid_order}
 use Rattle.gpt_table.specs.Runs.{joined}
 use Rattle.gpt_table.specs.Span.{bytes_at}
-use Rattle.gpt_table.specs.Gpt.{entries_byte, header_byte, header_fields, header_sum, sum_of_entries}
-use Rattle.gpt_table.specs.Reading.{EntryFits, ReadsHeader, header_at, slot_of}
+use Rattle.gpt_table.specs.Gpt.{EntryFits, entries_byte, header_byte, header_fields, header_sum, slot_of, sum_of_entries}
+use Rattle.gpt_table.specs.Reading.{ReadsHeader, header_at}
 use Rattle.gpt_table.specs.declared.entry.GptEntry.{GptEntry}
 use Rattle.gpt_table.specs.declared.header.GptHeader.{GptHeader}
 use Rattle.gpt_table.proofs.Headers.{header_byte_of, header_run, header_sum_is, length-header}

@@ -2,8 +2,8 @@
 use Rattle.std.specs.Prelude.{◌≡◌, ◌≢◌, ℕ, ◌+◌, ◌-◌, ◌*◌, ◌/◌, ◌^◌, ◌<◌, ◌≤◌, ◌⊎◌, List, Bool, true, false, if◌then◌else◌, length}
 use Rattle.std.proofs.Common.{refl, ◌∙◌, sym, ap, subst, arith, inl, inr}
 use Rattle.gpt_table.specs.Runs.{joined}
-use Rattle.gpt_table.specs.Gpt.{HasSectorSize, back_byte, back_entries_at, back_header, entry_sectors, front_header, header_byte, header_fields, header_sum, last_sector, last_usable_of, least_sectors, sum_of_entries}
-use Rattle.gpt_table.specs.Reading.{GptFits, GptReadsBack, HoldsGpt, ReadsBackup, ReadsHeader, slot_of}
+use Rattle.gpt_table.specs.Gpt.{GptFits, HasSectorSize, back_byte, back_entries_at, back_header, entry_sectors, front_header, header_byte, header_fields, header_sum, last_sector, last_usable_of, least_sectors, slot_of}
+use Rattle.gpt_table.specs.Reading.{GptReadsBack, HoldsGpt, ReadsBackup, ReadsHeader}
 use Rattle.gpt_table.specs.declared.entry.GptEntry.{GptEntry}
 use Rattle.gpt_table.specs.declared.table.GptSpec.{GptSpec}
 use Rattle.gpt_table.proofs.Held.{Has}
@@ -23,7 +23,7 @@ room_for_header spec (inr e) = omega (arith, e)
 
 front_fits : (spec : GptSpec) → GptFits spec → HeaderFits (front_header spec)
 front_fits spec fits =
-    let sectors = fits.sectors in
+    let last = fits.last in
     record {
       own = omega arith;
       other = both_fit spec.backup (last_sector spec) 1 (omega arith) (omega arith);
@@ -36,7 +36,7 @@ front_fits spec fits =
 
 back_fits : (spec : GptSpec) → GptFits spec → HeaderFits (back_header spec)
 back_fits spec fits =
-    let sectors = fits.sectors in
+    let last = fits.last in
     record {
       own = omega arith;
       other = omega arith;

@@ -9,8 +9,8 @@ use Rattle.base_fields.specs.Fields.{byte_of, number_at}
 use Rattle.base_fields.specs.Numbers.{guid_order}
 use Rattle.gpt_table.specs.Runs.{joined}
 use Rattle.gpt_table.specs.Span.{bytes_at}
-use Rattle.gpt_table.specs.Gpt.{HasLengths, entries_byte, entry_fields, slot_byte}
-use Rattle.gpt_table.specs.Reading.{EntryFits, guid_at, no_entry, slot_at, slot_of}
+use Rattle.gpt_table.specs.Gpt.{EntryFits, entries_byte, entry_fields, no_entry, slot_byte, slot_of}
+use Rattle.gpt_table.specs.Reading.{guid_at, slot_at}
 use Rattle.gpt_table.specs.declared.entry.GptEntry.{GptEntry}
 use Rattle.gpt_table.proofs.Runs.{byte_of-start}
 use Rattle.gpt_table.proofs.Slots.{entry_run, length-entry, length-guid, zeros_are_zero}

@@ -9,7 +9,7 @@ use Rattle.base_fields.specs.Numbers.{guid_order}
 use Rattle.base_fields.specs.Crc.{crc32_of}
 use Rattle.gpt_table.proofs.Spans.{bytes_at-is}
 use Rattle.gpt_table.specs.Runs.{joined}
-use Rattle.gpt_table.specs.Gpt.{HasLengths, entry_fields, entries_byte, slot_byte, sum_of_entries}
+use Rattle.gpt_table.specs.Gpt.{EntryFits, HasLengths, entry_fields, entries_byte, slot_byte, slot_of, sum_of_entries}
 use Rattle.gpt_table.specs.declared.entry.GptEntry.{GptEntry}
 use Rattle.gpt_table.proofs.Runs.{IsRun, byte_of-start}
 
@@ -39,23 +39,23 @@ length-entry e has =
 abbrev pub slot_bytes : GptEntry → List ℕ
 slot_bytes e = joined (entry_fields e)
 
-abbrev pub HaveLengths : List GptEntry → Type 0
-HaveLengths [] = Unit {0}
-HaveLengths (e ∷ es) = HasLengths e × HaveLengths es
+abbrev pub Fit : List GptEntry → Type 0
+Fit [] = Unit {0}
+Fit (e ∷ es) = EntryFits e × Fit es
 
 -- a room of n bytes in which these entries stand one after another, and zeros behind them
 pub record IsFilled (es : List GptEntry) (n : ℕ) (room : List ℕ) : Type 0 where
-  pub each : HaveLengths es
+  pub each : Fit es
   pub bytes : room ≡ flat_map slot_bytes es ++ replicate (n - 128 * length es) 0
 
-lengths_more : (es : List GptEntry) (e : GptEntry) → HaveLengths es → HasLengths e → HaveLengths (es ++ e ∷ [])
-lengths_more [] e each has = (has, tt)
-lengths_more (x ∷ es) e each has = (each.0, lengths_more es e each.1 has)
+fit_more : (es : List GptEntry) (e : GptEntry) → Fit es → EntryFits e → Fit (es ++ e ∷ [])
+fit_more [] e each has = (has, tt)
+fit_more (x ∷ es) e each has = (each.0, fit_more es e each.1 has)
 
-length-slots : (es : List GptEntry) → HaveLengths es → length (flat_map slot_bytes es) ≡ 128 * length es
+length-slots : (es : List GptEntry) → Fit es → length (flat_map slot_bytes es) ≡ 128 * length es
 length-slots [] each = refl
 length-slots (e ∷ es) each =
-    let one = length-entry e each.0 in
+    let one = length-entry e each.0.lengths in
     let more = length-slots es each.1 in
     length-append (slot_bytes e) (flat_map slot_bytes es) ∙ omega arith
 
@@ -69,15 +69,15 @@ slot_byte_of e j has =
     sym (byte_of-start (entry_fields e) j (entry_run e has))
 
 -- the byte j of slot k
-slots_byte : (es : List GptEntry) (n k j : ℕ) → HaveLengths es → j < 128 → get_or (flat_map slot_bytes es ++ replicate n 0) (128 * k + j) 0 ≡ slot_byte (slice_get es k) j
+slots_byte : (es : List GptEntry) (n k j : ℕ) → Fit es → j < 128 → get_or (flat_map slot_bytes es ++ replicate n 0) (128 * k + j) 0 ≡ slot_byte (slice_get es k) j
 slots_byte [] n k j each inside = zeros_are_zero n (128 * k + j)
 slots_byte (e ∷ es) n zero j each inside =
-    let one = length-entry e each.0 in
+    let one = length-entry e each.0.lengths in
     let here : 128 * 0 + j ≡ j = omega arith in
     let whole = append_assoc (slot_bytes e) (flat_map slot_bytes es) (replicate n 0) in
-    rw (here, whole, get_or_append_left (slot_bytes e) (flat_map slot_bytes es ++ replicate n 0) 0 j (omega arith)) (slot_byte_of e j each.0)
+    rw (here, whole, get_or_append_left (slot_bytes e) (flat_map slot_bytes es ++ replicate n 0) 0 j (omega arith)) (slot_byte_of e j each.0.lengths)
 slots_byte (e ∷ es) n (suc k) j each inside =
-    let one = length-entry e each.0 in
+    let one = length-entry e each.0.lengths in
     let there : 128 * suc k + j ≡ length (slot_bytes e) + (128 * k + j) = omega arith in
     let whole = append_assoc (slot_bytes e) (flat_map slot_bytes es) (replicate n 0) in
     rw (there, whole, get_or-append-add (slot_bytes e) (flat_map slot_bytes es ++ replicate n 0) (128 * k + j) 0) (slots_byte es n k j each.1 inside)
@@ -91,10 +91,10 @@ filled_byte es n room o is =
     ∙ slots_byte es (n - 128 * length es) (o / 128) (o % 128) is.each (omega arith)
 
 -- one more entry
-pub filled_more : (es : List GptEntry) (e : GptEntry) (n at : ℕ) (room : List ℕ) → IsFilled es n room → HasLengths e → at ≡ 128 * length es → at + 128 ≤ n → IsFilled (es ++ e ∷ []) n (written room at (slot_bytes e))
+pub filled_more : (es : List GptEntry) (e : GptEntry) (n at : ℕ) (room : List ℕ) → IsFilled es n room → EntryFits e → at ≡ 128 * length es → at + 128 ≤ n → IsFilled (es ++ e ∷ []) n (written room at (slot_bytes e))
 filled_more es e n at room is has here fits =
     let front = length-slots es is.each in
-    let one = length-entry e has in
+    let one = length-entry e has.lengths in
     let longer = length_push es e in
     let left : n - 128 * length es - 128 ≡ n - 128 * length (es ++ e ∷ []) = omega arith in
     let cut : take at room ≡ flat_map slot_bytes es = ap (take at) is.bytes ∙ take_at (flat_map slot_bytes es) _ at (omega arith) in
@@ -106,18 +106,24 @@ filled_more es e n at room is has here fits =
     ∙ drop-replicate 128 (n - 128 * length es) 0
     ∙ ap (λ (m : ℕ). replicate m 0) left in
     record {
-      each = lengths_more es e is.each has;
+      each = fit_more es e is.each has;
       bytes = ap (λ (xs : List ℕ). xs ++ slot_bytes e ++ drop (at + length (slot_bytes e)) room) cut
       ∙ ap (λ (xs : List ℕ). flat_map slot_bytes es ++ slot_bytes e ++ xs) rest
       ∙ ap (λ (xs : List ℕ). xs ++ replicate (n - 128 * length (es ++ e ∷ [])) 0) (flat_map_more slot_bytes [] es e);
     }
 
 -- one more turn of the loop that fills the room
-pub filled_step : (entries : List GptEntry) (k n : ℕ) (room new : List ℕ) (e : GptEntry) → IsFilled (take k entries) n room → k < length entries → 128 * length entries ≤ n → HasLengths e → new ≡ written room (128 * k) (slot_bytes e) → take (k + 1) entries ≡ take k entries ++ e ∷ [] → IsFilled (take (k + 1) entries) n new
+pub filled_step : (entries : List GptEntry) (k n : ℕ) (room new : List ℕ) (e : GptEntry) → IsFilled (take k entries) n room → k < length entries → 128 * length entries ≤ n → EntryFits e → new ≡ written room (128 * k) (slot_bytes e) → take (k + 1) entries ≡ take k entries ++ e ∷ [] → IsFilled (take (k + 1) entries) n new
 filled_step entries k n room new e is inside fits has wrote more =
     let len = length-take-le k entries (omega arith) in
     let place : 128 * k ≡ 128 * length (take k entries) = ap (λ (m : ℕ). 128 * m) (sym len) in
     rw (more, wrote) (filled_more (take k entries) e n (128 * k) room is has place (omega arith))
+
+-- an entry of those in the room
+pub fit_at : (es : List GptEntry) (k : ℕ) → Fit es → k < length es → EntryFits (slot_of es k)
+fit_at [] k each inside = absurd (omega arith)
+fit_at (e ∷ es) zero each inside = each.0
+fit_at (e ∷ es) (suc k) each inside = fit_at es k each.1 (omega arith)
 
 -- the sum over a room that has the entries' bytes
 pub entries_sum_is : (entries : List GptEntry) (room : List ℕ) → length room ≡ 16384 → ((o : ℕ) → o < 16384 → get_or room o 0 ≡ entries_byte entries o) → crc32_of room ≡ sum_of_entries entries

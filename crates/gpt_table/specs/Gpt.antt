@@ -1,7 +1,6 @@
 -- The GUID partition table (UEFI 2.10, section 5.3), as fields at their offsets. Z is the sector size, LBA n the sector
 -- number n, which begins at the byte n * Z.
-use Rattle.std.specs.Prelude.{◌≡◌, ℕ, ◌+◌, ◌-◌, ◌*◌, ◌/◌, ◌%◌, ◌^◌, ◌<◌, ◌≤◌, ◌⊎◌, List, [], ◌∷◌, Option, Some, None, Bool, if◌then◌else◌, flat_map, codes, slice_get, length}
-use Rattle.std.specs.Prelude.{max}
+use Rattle.std.specs.Prelude.{◌≡◌, ◌≢◌, ℕ, ◌+◌, ◌-◌, ◌*◌, ◌/◌, ◌%◌, ◌^◌, ◌<◌, ◌≤◌, ◌⊎◌, List, [], ◌∷◌, Option, Some, None, Bool, if◌then◌else◌, flat_map, codes, slice_get, slice_index, slice_index_or, length, max, replicate}
 use Rattle.byteorder.specs.Endian.{little_bytes}
 use Rattle.base_fields.specs.Crc.{crc32_of}
 use Rattle.base_fields.specs.Fields.{Field, number, byte_of}
@@ -27,6 +26,21 @@ pub record HasLengths (e : GptEntry) : Type 0 where
   pub kind : length e.kind ≡ 16
   pub own : length e.own ≡ 16
   pub name : length e.name ≡ 36
+
+-- the numbers of an entry fit their fields
+pub record EntryFits (e : GptEntry) : Type 0 where
+  pub lengths : HasLengths e
+  pub first : e.first < 2 ^ 64
+  pub last : e.last < 2 ^ 64
+  pub attrs : e.attrs < 2 ^ 64
+  pub units : (i : ℕ) → slice_index e.name i < 2 ^ 16
+
+-- a slot that isn't used is all zero
+abbrev pub no_entry : GptEntry
+no_entry = record { kind = replicate 16 0; own = replicate 16 0; first = 0; last = 0; attrs = 0; name = replicate 36 0 }
+
+abbrev pub slot_of : List GptEntry → ℕ → GptEntry
+slot_of entries k = slice_index_or entries k no_entry
 
 -- the byte at an offset of a slot, which is all zero where it isn't used
 abbrev pub slot_byte : Option GptEntry → ℕ → ℕ
@@ -128,3 +142,15 @@ HasSectorSize spec = (spec.sector ≡ 512) ⊎ (spec.sector ≡ 4096)
 -- so many sectors that each LBA that the headers name is at least 0
 abbrev pub least_sectors : GptSpec → ℕ
 least_sectors spec = if spec.backup then 2 + entry_sectors spec else 1
+
+-- what a table can be made of
+pub record GptFits (spec : GptSpec) : Type 0 where
+  pub sector : HasSectorSize spec
+  pub disk : length spec.disk ≡ 16
+  pub least : least_sectors spec ≤ spec.sectors
+  pub last : last_sector spec < 2 ^ 64
+  pub entries_at : spec.entries_at < 2 ^ 64
+  pub has_entries : spec.entries_at ≢ 0
+  pub usable : first_usable_of spec < 2 ^ 64
+  pub few : length spec.entries ≤ 128
+  pub entries : (k : ℕ) → k < length spec.entries → EntryFits (slot_of spec.entries k)

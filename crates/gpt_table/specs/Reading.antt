@@ -1,10 +1,10 @@
 -- What the bytes of an image read as, an image being the byte at each offset. Nothing here knows how a table is written.
-use Rattle.std.specs.Prelude.{◌≡◌, ◌≢◌, ℕ, zero, suc, ◌+◌, ◌*◌, ◌^◌, ◌<◌, ◌≤◌, List, [], ◌∷◌, ◌++◌, true, codes, length, replicate, slice_index, slice_index_or}
+use Rattle.std.specs.Prelude.{◌≡◌, ◌≢◌, ℕ, zero, suc, ◌+◌, ◌*◌, ◌<◌, List, [], ◌∷◌, ◌++◌, true, codes, replicate}
 use Rattle.base_fields.specs.Crc.{crc32_of}
 use Rattle.base_fields.specs.Fields.{number_at}
 use Rattle.base_fields.specs.Numbers.{guid_order}
 use Rattle.gpt_table.specs.Span.{bytes_at}
-use Rattle.gpt_table.specs.Gpt.{HasLengths, HasSectorSize, back_byte, back_entries_at, back_header, entries_byte, first_usable_of, front_byte, front_header, last_sector, least_sectors}
+use Rattle.gpt_table.specs.Gpt.{GptFits, back_byte, back_entries_at, back_header, entries_byte, front_byte, front_header, last_sector, slot_of}
 use Rattle.gpt_table.specs.declared.entry.GptEntry.{GptEntry}
 use Rattle.gpt_table.specs.declared.header.GptHeader.{GptHeader}
 use Rattle.gpt_table.specs.declared.table.GptSpec.{GptSpec}
@@ -78,33 +78,6 @@ pub record HoldsGpt (image : ℕ → ℕ) (spec : GptSpec) : Type 0 where
   pub entries : (o : ℕ) → o < 16384 → image (spec.entries_at * spec.sector + o) ≡ entries_byte spec.entries o
   pub back_entries : spec.backup ≡ true → (o : ℕ) → o < 16384 → image (back_entries_at spec * spec.sector + o) ≡ entries_byte spec.entries o
   pub back : spec.backup ≡ true → (o : ℕ) → o < spec.sector → image (last_sector spec * spec.sector + o) ≡ back_byte spec o
-
--- a slot that isn't used is all zero
-abbrev pub no_entry : GptEntry
-no_entry = record { kind = replicate 16 0; own = replicate 16 0; first = 0; last = 0; attrs = 0; name = replicate 36 0 }
-
-abbrev pub slot_of : List GptEntry → ℕ → GptEntry
-slot_of entries k = slice_index_or entries k no_entry
-
--- the numbers of an entry fit their fields
-pub record EntryFits (e : GptEntry) : Type 0 where
-  pub lengths : HasLengths e
-  pub first : e.first < 2 ^ 64
-  pub last : e.last < 2 ^ 64
-  pub attrs : e.attrs < 2 ^ 64
-  pub units : (i : ℕ) → slice_index e.name i < 2 ^ 16
-
--- what a table can be made of
-pub record GptFits (spec : GptSpec) : Type 0 where
-  pub sector : HasSectorSize spec
-  pub disk : length spec.disk ≡ 16
-  pub least : least_sectors spec ≤ spec.sectors
-  pub sectors : spec.sectors < 2 ^ 64
-  pub entries_at : spec.entries_at < 2 ^ 64
-  pub has_entries : spec.entries_at ≢ 0
-  pub usable : first_usable_of spec < 2 ^ 64
-  pub few : length spec.entries ≤ 128
-  pub entries : (k : ℕ) → k < length spec.entries → EntryFits (slot_of spec.entries k)
 
 -- each image that has the bytes of a table reads as what it was made of, with its backup where it has one. An entry's
 -- type may be nil: it reads back like any other

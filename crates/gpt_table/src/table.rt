@@ -1,5 +1,5 @@
-ghost use Rattle.std.specs.Prelude.{◌≡◌, ℕ, ◌^◌, ◌<◌, ◌≤◌, length, slice_index};
-ghost use Rattle.gpt_table.specs.Gpt.{entries_byte, front_byte, back_byte, HasSectorSize, least_sectors, first_usable_of};
+ghost use Rattle.std.specs.Prelude.{◌≡◌, ◌≢◌, ℕ, ◌^◌, ◌<◌, ◌≤◌, length, slice_index};
+ghost use Rattle.gpt_table.specs.Gpt.{GptFits, entries_byte, front_byte, back_byte, HasSectorSize, least_sectors, first_usable_of};
 
 use crate::entry::{GptEntry, put_entries};
 use crate::header::{GptHeader, head};
@@ -132,6 +132,7 @@ pub fn gpt(spec: &GptSpec, entries: &mut [u8]) -> GptHeads
     ensures entries { (o : ℕ) → o < 16384 → slice_index entries.new o ≡ entries_byte spec.now.entries o }
     ensures front { (o : ℕ) → o < 512 → slice_index result.front o ≡ front_byte spec.now o }
     ensures back { (o : ℕ) → o < 512 → slice_index result.back o ≡ back_byte spec.now o }
+    ensures kept { spec.now.entries_at ≢ 0 → GptFits spec.now }
 {
     put_entries(spec.entries.as_slice(), entries);
     let sum = crc32(entries);
