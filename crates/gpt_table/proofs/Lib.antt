@@ -1,0 +1,10 @@
+-- lemmas on fields without gaps, and on slots
+pub mod Runs
+pub mod Slots
+pub mod Headers
+pub mod Spans
+pub mod Sums
+pub mod Held
+pub mod SlotReads
+pub mod HeaderReads
+pub mod ReadsBack

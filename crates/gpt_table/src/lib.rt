@@ -1,0 +1,15 @@
+//! The bytes of a GUID partition table: its entries, and the header in front with its backup.
+#![tactic(auto)]
+
+mod entry;
+mod header;
+mod laws;
+mod table;
+
+pub use entry::GptEntry;
+pub use header::GptHeader;
+pub use laws::gpt_reads_back;
+pub use table::{GptHeads, GptSpec, gpt};
+
+#[cfg(test)]
+mod tests;
