@@ -4,3 +4,4 @@ pub mod Utf8
 pub mod Whole
 pub mod Behind
 pub mod Within
+pub mod Joined
