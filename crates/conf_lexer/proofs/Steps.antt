@@ -65,7 +65,7 @@ later_above : (p : Option ℕ) (k : ℕ) → later 1 p ≡ Some k → 0 < k
 later_above None k e = absurd (cc)
 later_above (Some j) k e = let f : 1 + j ≡ k = cc in omega arith
 
-part_above : (o : Option ℕ) (f : ℕ → Option ℕ) (k : ℕ) → (o >>= λ n. later 1 (f n)) ≡ Some k → 0 < k
+pub part_above : (o : Option ℕ) (f : ℕ → Option ℕ) (k : ℕ) → (o >>= λ n. later 1 (f n)) ≡ Some k → 0 < k
 part_above None f k e = absurd (cc)
 part_above (Some n) f k e = later_above (f n) k e
 

@@ -2,12 +2,14 @@
 #![tactic(auto)]
 
 mod extents;
+mod laws;
 mod lexing;
 mod marks;
 mod pieces;
 mod tokens;
 mod variables;
 
+pub use laws::{joined_texts, texts_in_pieces};
 pub use lexing::lex;
 pub use tokens::{LexFault, Token, TokenKind};
 

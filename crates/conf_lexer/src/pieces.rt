@@ -74,6 +74,15 @@ pub fn first_piece(text: &[u8]) -> Option<Piece>
     if is_space_byte(*first) {
         return Some(Piece { kind: None, len: 1 });
     }
+    if let Some(kind) = mark(*first) {
+        return Some(Piece { kind: Some(kind), len: 1 });
+    }
+    if *first == b'"' {
+        return spelled_piece(TokenKind::Double, text, double_text_length(text));
+    }
+    if *first == b'\'' {
+        return spelled_piece(TokenKind::Single, text, single_text_length(text));
+    }
     if *first == b'#' || text.starts_with(b"//") {
         return Some(Piece { kind: None, len: 1 + line_length(text.split_at(1).1) });
     }
@@ -83,12 +92,5 @@ pub fn first_piece(text: &[u8]) -> Option<Piece>
     if text.starts_with(b"+=") {
         return Some(Piece { kind: Some(TokenKind::PlusEquals), len: 2 });
     }
-    if let Some(kind) = mark(*first) {
-        return Some(Piece { kind: Some(kind), len: 1 });
-    }
-    match *first {
-        b'"' => spelled_piece(TokenKind::Double, text, double_text_length(text)),
-        b'\'' => spelled_piece(TokenKind::Single, text, single_text_length(text)),
-        _ => spelled_piece(TokenKind::Word, text, word_length(text)),
-    }
+    spelled_piece(TokenKind::Word, text, word_length(text))
 }
