@@ -7,7 +7,8 @@ use Rattle.std.specs.Str.{is_utf8}
 use Rattle.conf_lexer.proofs.Behind.{and_true, bind_stays, chosen, comment_stays, double_stays, given, later_stays, one_begins, prefix_stays, through_stays, word_stays}
 use Rattle.conf_lexer.proofs.Whole.{followed_nil, followed_twice, piece_more, piece_none}
 use Rattle.conf_lexer.proofs.Within.{piece_within, same_piece, skipped_len, spelled_kind, spelled_len}
-use Rattle.conf_lexer.specs.Text.{◌>>=◌, ArePieces, HasNone, HasTokens, Joins, begins, begins_line, behind_double, both, closes, closes_from, closes_then, comment_len, double_len, followed, goes_on, is_closed, is_space, is_word, later, line_len, mark_of, moved, moved_token, piece_at, piece_of, piece_then, piece_tokens, place_behind, single_len, skipped, spelled, through, through_comment, tokens_at, tokens_from, tokens_of, word_len}
+use Rattle.conf_lexer.specs.Joined.{ArePieces, HasNone, HasTokens, Joins, both, closes, closes_from, closes_then, goes_on, is_closed, is_word, moved, moved_token, piece_tokens, place_behind}
+use Rattle.conf_lexer.specs.Text.{◌>>=◌, begins, begins_line, behind_double, comment_len, double_len, followed, is_space, later, line_len, mark_of, piece_at, piece_of, piece_then, single_len, skipped, spelled, through, through_comment, tokens_at, tokens_from, tokens_of, word_len}
 use Rattle.conf_lexer.specs.declared.pieces.Piece.{Piece}
 use Rattle.conf_lexer.specs.declared.tokens.Token.{Token}
 use Rattle.conf_lexer.specs.declared.tokens.TokenKind.{TokenKind}

@@ -1,5 +1,5 @@
 -- The tokens of a text, piece by piece.
-use Rattle.std.proofs.Common.{◌≡◌, ℕ, zero, suc, ◌+◌, ◌-◌, ◌<◌, ◌≤◌, Option, Some, None, Result, Ok, Err, List, [], ◌∷◌, ◌++◌, length, drop, arith, refl, ap, sym, ◌∙◌, add_assoc, append_assoc}
+use Rattle.std.proofs.Common.{◌≡◌, ℕ, zero, suc, ◌+◌, ◌-◌, ◌<◌, ◌≤◌, Option, Some, None, Result, Ok, Err, List, [], ◌∷◌, ◌++◌, length, drop, arith, refl, ap, sym, ◌∙◌, add_assoc, append-nil, append_assoc}
 use Rattle.conf_lexer.specs.Text.{followed, piece_of, piece_then, tokens_at, tokens_from, tokens_of}
 use Rattle.conf_lexer.specs.declared.pieces.Piece.{Piece}
 use Rattle.conf_lexer.specs.declared.tokens.Token.{Token}
@@ -40,3 +40,8 @@ piece_step at tokens p whole rest so_far e low high = so_far ∙ ap (followed to
 pub piece_none : (at : ℕ) (tokens : List Token) (whole rest : List ℕ) → tokens_of whole ≡ followed tokens (tokens_from at 0 rest) → 0 < length rest → piece_of rest ≡ None → tokens_of whole ≡ Err at
 piece_none at tokens whole [] so_far h e = absurd (omega arith)
 piece_none at tokens whole (b ∷ rest) so_far h e = so_far ∙ ap (λ piece. followed tokens (piece_then at piece (λ k. tokens_from (at + 1) k rest))) e
+
+-- no rest
+pub finished : (at : ℕ) (tokens : List Token) (whole rest : List ℕ) → tokens_of whole ≡ followed tokens (tokens_from at 0 rest) → length rest ≡ 0 → tokens_of whole ≡ Ok tokens
+finished at tokens whole [] so_far h = so_far ∙ ap Ok (append-nil tokens)
+finished at tokens whole (b ∷ rest) so_far h = absurd (omega arith)

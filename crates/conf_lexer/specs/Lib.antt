@@ -1,2 +1,4 @@
 -- definitions that contracts cite
 pub mod Text
+pub mod Standing
+pub mod Joined

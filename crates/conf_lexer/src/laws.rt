@@ -1,4 +1,4 @@
-ghost use Rattle.conf_lexer.specs.Text.{HasNone, HasTokens, Joins};
+ghost use Rattle.conf_lexer.specs.Joined.{HasNone, HasTokens, Joins};
 
 /// Nothing is done: the contract is the law of two texts that are put together.
 ///

@@ -1,4 +1,5 @@
-ghost use Rattle.std.specs.Prelude.{◌≡◌, ◌++◌, IfErr, IfOk, Ok, OnOk};
+ghost use Rattle.std.specs.Prelude.{All, ◌≡◌, ◌++◌, IfErr, IfOk, Ok, OnOk};
+ghost use Rattle.conf_lexer.specs.Standing.{InOrder, StandsIn};
 ghost use Rattle.conf_lexer.specs.Text.{Refuses, tokens_at, tokens_of};
 
 use crate::pieces::{Piece, first_piece};
@@ -26,6 +27,8 @@ fn add_piece(tokens: &mut List<Token>, at: usize, piece: Piece) -> Result<(), Le
 pub fn lex(alloc: Global, text: &[u8]) -> Result<List<Token>, LexFault>
     ensures ok { IfOk result (λ tokens. tokens_of text.now ≡ Ok tokens) }
     ensures err { IfErr result (Refuses text.now) }
+    ensures each { IfOk result (All (StandsIn text.now)) }
+    ensures order { IfOk result (InOrder 0) }
 {
     let mut tokens = List::new(alloc);
     let mut at = 0;
