@@ -49,6 +49,10 @@ both (Err place) more = Err place
 abbrev pub Joins : Type 0
 Joins = (a b : List ℕ) → closes a ≡ true → tokens_of (a ++ b) ≡ both (tokens_of a) (moved (length a) (tokens_of b))
 
+-- two texts that close do so together
+abbrev pub ClosesJoined : Type 0
+ClosesJoined = (a b : List ℕ) → closes a ≡ true → closes b ≡ true → closes (a ++ b) ≡ true
+
 -- the text is these pieces, one after another, and then the rest
 abbrev pub ArePieces : List ℕ → List Piece → List ℕ → Type 0
 ArePieces text [] rest = text ≡ rest
@@ -70,3 +74,7 @@ HasTokens = (text : List ℕ) (ps : List Piece) → ArePieces text ps [] → tok
 -- a text has no tokens where a rest has no first piece, and the refusal names the start of that rest
 abbrev pub HasNone : Type 0
 HasNone = (text : List ℕ) (ps : List Piece) (b : ℕ) (rest : List ℕ) → ArePieces text ps (b ∷ rest) → piece_of (b ∷ rest) ≡ None → tokens_of text ≡ Err (place_behind 0 ps)
+
+-- each text is pieces, and then a rest that has no first piece: the empty one, or the first place that is none
+abbrev pub IsInPieces : Type 0
+IsInPieces = (text : List ℕ) → (ps : List Piece) × ((rest : List ℕ) × (ArePieces text ps rest × (piece_of rest ≡ None)))

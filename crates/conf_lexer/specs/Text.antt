@@ -1,6 +1,6 @@
 -- What the tokens of a text are: the first piece of a text, rule by rule, and then the whole text. The language is this project's own.
-use Rattle.std.specs.Prelude.{ℕ, zero, suc, ◌+◌, ◌-◌, ◌==◌, ◌||◌, ◌&&◌, Bool, false, not, nat_eq, nat_le, List, [], ◌∷◌, ◌++◌, length, take, drop, codes, Option, Some, None, is_some, option_map, option_to_list, true, ◌≡◌, Result, Ok, Err, if◌then◌else◌}
-use Rattle.std.specs.List.{position, prefix_len, starts_with}
+use Rattle.std.specs.Prelude.{ℕ, zero, suc, ◌+◌, ◌-◌, ◌==◌, ◌||◌, ◌&&◌, Bool, false, not, nat_eq, nat_le, nat_lt, List, [], ◌∷◌, ◌++◌, length, take, drop, codes, Option, Some, None, is_some, option_map, option_to_list, true, ◌≡◌, Result, Ok, Err, if◌then◌else◌}
+use Rattle.std.specs.List.{list_all, position, prefix_len, starts_with}
 use Rattle.std.specs.Str.{is_utf8}
 use Rattle.conf_lexer.specs.declared.pieces.Piece.{Piece}
 use Rattle.conf_lexer.specs.declared.tokens.LexFault.{LexFault}
@@ -65,7 +65,7 @@ behind_dollar text = if name_len text == 0 then None else later (name_len text) 
 abbrev pub variable_len : List ℕ → Option ℕ
 variable_len text = later 2 (behind_dollar (drop 2 text))
 
--- a part of a bare word, a variable or a byte
+-- a part of a bare word: a variable or a byte
 abbrev pub word_part : List ℕ → Option ℕ
 word_part text = if begins text (codes "${") then variable_len text else Some 1
 
@@ -93,13 +93,15 @@ parts_len ends part zero (b ∷ rest) = if ends (b ∷ rest) then Some 0 else (p
 abbrev pub word_len : List ℕ → Option ℕ
 word_len text = parts_len ends_word word_part 0 text
 
--- each backslash takes the next byte with it; at the end of a text there is none
+-- a byte, but a backslash takes the next one with it; at the end of a text there is none
 abbrev pub pair_part : List ℕ → Option ℕ
 pair_part text = if begins text (codes "\\") then (if nat_le 2 (length text) then Some 2 else None) else Some 1
 
+-- a double quote stands here
 abbrev pub at_quote : List ℕ → Bool
 at_quote text = begins text (codes "\"")
 
+-- parts that end only where the text does
 abbrev pub never : List ℕ → Bool
 never text = false
 
@@ -131,30 +133,35 @@ comment_len text = later 2 (through_comment (drop 2 text))
 abbrev pub skipped : Option ℕ → Option Piece
 skipped len = len >>= λ n. Some (record { kind = None; len = n })
 
+-- the bytes are UTF-8; bytes below 128 are so at once, so that this computes at the texts of a proof
+abbrev pub is_text : List ℕ → Bool
+is_text bytes = list_all (λ b. nat_lt b 128) bytes || is_utf8 bytes
+
 -- a token whose bytes are to be UTF-8
 abbrev pub spelled : TokenKind → List ℕ → Option ℕ → Option Piece
-spelled kind text len = len >>= λ n. if is_utf8 (take n text) then Some (record { kind = Some kind; len = n }) else None
+spelled kind text len = len >>= λ n. if is_text (take n text) then Some (record { kind = Some kind; len = n }) else None
 
 -- a comment to the end of the line begins here
 abbrev pub begins_line : ℕ → List ℕ → Bool
 begins_line b text = b == 35 || begins text (codes "//")
 
--- the bytes before the end of the line, behind the first one
+-- a first byte, and the bytes behind it before the end of the line
 abbrev pub line_len : List ℕ → ℕ
 line_len text = 1 + prefix_len (λ c. not (c == 10)) (drop 1 text)
 
--- the first piece of a text that begins with that byte: white space, a token or a comment
+-- the first piece of a text that begins with that byte: a byte of white space, a token or a comment
 abbrev pub piece_at : ℕ → List ℕ → Option Piece
 piece_at b text =
-  if is_space b then skipped (Some 1) else (
-  if is_some (mark_of b) then Some (record { kind = mark_of b; len = 1 }) else (
-  if b == 34 then spelled Double text (double_len text) else (
-  if b == 39 then spelled Single text (single_len text) else (
-  if begins_line b text then skipped (Some (line_len text)) else (
-  if begins text (codes "/*") then skipped (comment_len text) else (
-  if begins text (codes "+=") then Some (record { kind = Some PlusEquals; len = 2 }) else
-  spelled Word text (word_len text)))))))
+    if is_space b then skipped (Some 1) else (
+    if is_some (mark_of b) then Some (record { kind = mark_of b; len = 1 }) else (
+    if b == 34 then spelled Double text (double_len text) else (
+    if b == 39 then spelled Single text (single_len text) else (
+    if begins_line b text then skipped (Some (line_len text)) else (
+    if begins text (codes "/*") then skipped (comment_len text) else (
+    if begins text (codes "+=") then Some (record { kind = Some PlusEquals; len = 2 }) else
+    spelled Word text (word_len text)))))))
 
+-- the first piece of a text; the empty text has none
 abbrev pub piece_of : List ℕ → Option Piece
 piece_of [] = None
 piece_of (b ∷ rest) = piece_at b (b ∷ rest)

@@ -12,12 +12,16 @@ fn add_piece(tokens: &mut List<Token>, at: usize, piece: Piece) -> Result<(), Le
     ensures ok { OnOk result (tokens.new ≡ tokens.old ++ tokens_at at piece) }
     ensures err { IfErr result (λ e. e ≡ LexFault.NoMemory) }
 {
-    let Some(kind) = piece.kind else { return Ok(()) };
+    let Some(kind) = piece.kind else {
+        return Ok(())
+    };
     let span = Span {
         at: at as u64,
         len: piece.len as u64,
     };
-    tokens.push(Token { kind, span }).map_err(|_| LexFault::NoMemory)?;
+    tokens
+        .push(Token { kind, span })
+        .map_err(|_| LexFault::NoMemory)?;
     Ok(())
 }
 
