@@ -6,3 +6,4 @@ pub mod Behind
 pub mod Within
 pub mod Joined
 pub mod Standing
+pub mod Names

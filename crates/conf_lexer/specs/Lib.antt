@@ -2,3 +2,4 @@
 pub mod Text
 pub mod Standing
 pub mod Joined
+pub mod Names

@@ -1,4 +1,5 @@
 ghost use Rattle.conf_lexer.specs.Joined.{ClosesJoined, HasNone, HasTokens, IsInPieces, Joins};
+ghost use Rattle.conf_lexer.specs.Names.{PlainName, QuotedName};
 
 /// Nothing is done: the contract is the law of two texts that are put together.
 ///
@@ -19,4 +20,12 @@ pub fn texts_in_pieces()
     ensures tokens { HasTokens }
     ensures none { HasNone }
     ensures always { IsInPieces }
+{}
+
+/// Nothing is done: the contract is the law of the names in a text that is made.
+///
+/// A plain name before white space is one bare word, and a text between single quotes is one token; both close.
+pub fn names_in_texts()
+    ensures plain { PlainName }
+    ensures quoted { QuotedName }
 {}

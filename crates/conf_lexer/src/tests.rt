@@ -294,5 +294,6 @@ fn a_million_bytes_of_each(rt: HostRuntime) -> Result<(), AllocError> {
 #[test]
 fn laws() {
     joined_texts();
+    names_in_texts();
     texts_in_pieces();
 }
