@@ -1,5 +1,5 @@
 -- A piece that ends by itself is the same piece, whatever stands behind it.
-use Rattle.std.proofs.Common.{◌≡◌, ℕ, zero, suc, ◌+◌, ◌-◌, ◌==◌, ◌<◌, ◌≤◌, Bool, true, false, ◌&&◌, ◌||◌, not, Option, Some, None, List, [], ◌∷◌, ◌++◌, length, take, drop, codes, cond, if◌then◌else◌, nat_lt, nat_le, arith, refl, ap, sym, ◌∙◌, length-append, length-drop}
+use Rattle.std.proofs.Common.{◌≡◌, ℕ, zero, suc, ◌+◌, ◌-◌, ◌==◌, ◌<◌, Bool, true, false, ◌&&◌, ◌||◌, not, Option, Some, None, List, [], ◌∷◌, ◌++◌, length, take, drop, codes, cond, if◌then◌else◌, nat_lt, nat_le, arith, refl, ap, sym, ◌∙◌, length-append, length-drop}
 use Rattle.std.proofs.lemmas.Bool.Decides.{nat_tests}
 use Rattle.std.proofs.lemmas.List.{take-append-le, drop-append-le}
 use Rattle.std.specs.List.{position, prefix_len}
@@ -55,13 +55,13 @@ place_choice false m k e = absurd (cc)
 
 place_stays : (p : ℕ → Bool) (xs ys : List ℕ) (k : ℕ) → position p xs ≡ Some k → position p (xs ++ ys) ≡ Some k
 place_stays p xs ys k e =
-  let found = place_choice (nat_lt (prefix_len (λ c. not (p c)) xs) (length xs)) (prefix_len (λ c. not (p c)) xs) k e in
-  let test : nat_lt (prefix_len (λ c. not (p c)) xs) (length xs) ≡ true = found.0 in
-  let low : prefix_len (λ c. not (p c)) xs < length xs = grind (arith, nat_tests) in
-  let same : prefix_len (λ c. not (p c)) (xs ++ ys) ≡ prefix_len (λ c. not (p c)) xs = prefix_stays (λ c. not (p c)) xs ys low in
-  let long : prefix_len (λ c. not (p c)) xs < length (xs ++ ys) = simp length-append (omega arith) in
-  let within : nat_lt (prefix_len (λ c. not (p c)) xs) (length (xs ++ ys)) ≡ true = grind (arith, nat_tests) in
-  rw (same, within) (ap Some found.1)
+    let found = place_choice (nat_lt (prefix_len (λ c. not (p c)) xs) (length xs)) (prefix_len (λ c. not (p c)) xs) k e in
+    let test : nat_lt (prefix_len (λ c. not (p c)) xs) (length xs) ≡ true = found.0 in
+    let low : prefix_len (λ c. not (p c)) xs < length xs = grind (arith, nat_tests) in
+    let same : prefix_len (λ c. not (p c)) (xs ++ ys) ≡ prefix_len (λ c. not (p c)) xs = prefix_stays (λ c. not (p c)) xs ys low in
+    let long : prefix_len (λ c. not (p c)) xs < length (xs ++ ys) = simp length-append (omega arith) in
+    let within : nat_lt (prefix_len (λ c. not (p c)) xs) (length (xs ++ ys)) ≡ true = grind (arith, nat_tests) in
+    rw (same, within) (ap Some found.1)
 
 pub through_stays : (c : ℕ) (xs ys : List ℕ) (k : ℕ) → through c xs ≡ Some k → through c (xs ++ ys) ≡ Some k
 through_stays c xs ys k e = later_stays 1 (position (λ b. b == c) xs) (position (λ b. b == c) (xs ++ ys)) k (λ j h sum. place_stays (λ b. b == c) xs ys j h) e
@@ -102,17 +102,17 @@ later_some n (Some j) k e = (j, refl)
 
 dollar_name : (k : ℕ) (s : List ℕ) (j : ℕ) → later k (behind_name (drop k s)) ≡ Some j → k < length s
 dollar_name k s j e =
-  let found = later_some k (behind_name (drop k s)) j e in
-  let some : 0 < length (drop k s) = name_end_some (drop k s) found.0 found.1 in
-  let count : length (drop k s) ≡ length s - k = length-drop k s in
-  omega arith
+    let found = later_some k (behind_name (drop k s)) j e in
+    let some : 0 < length (drop k s) = name_end_some (drop k s) found.0 found.1 in
+    let count : length (drop k s) ≡ length s - k = length-drop k s in
+    omega arith
 
 dollar_stays : (s b : List ℕ) (j : ℕ) → behind_dollar s ≡ Some j → behind_dollar (s ++ b) ≡ Some j
 dollar_stays s b j e =
-  let low : name_len s < length s = given (name_len s == 0) None (later (name_len s) (behind_name (drop (name_len s) s))) j (λ _ h. absurd (cc)) (λ _ h. dollar_name (name_len s) s j h) e in
-  let same : name_len (s ++ b) ≡ name_len s = name_stays s b low in
-  let cut : drop (name_len s) (s ++ b) ≡ drop (name_len s) s ++ b = drop-append-le (name_len s) s b (omega arith) in
-  rw (same, cut) (chosen (name_len s == 0) None None (later (name_len s) (behind_name (drop (name_len s) s))) (later (name_len s) (behind_name (drop (name_len s) s ++ b))) j (λ _ h. h) (λ _ h. later_stays (name_len s) (behind_name (drop (name_len s) s)) (behind_name (drop (name_len s) s ++ b)) j (λ i g sum. name_end_stays (drop (name_len s) s) b i g) h) e)
+    let low : name_len s < length s = given (name_len s == 0) None (later (name_len s) (behind_name (drop (name_len s) s))) j (λ _ h. absurd (cc)) (λ _ h. dollar_name (name_len s) s j h) e in
+    let same : name_len (s ++ b) ≡ name_len s = name_stays s b low in
+    let cut : drop (name_len s) (s ++ b) ≡ drop (name_len s) s ++ b = drop-append-le (name_len s) s b (omega arith) in
+    rw (same, cut) (chosen (name_len s == 0) None None (later (name_len s) (behind_name (drop (name_len s) s))) (later (name_len s) (behind_name (drop (name_len s) s ++ b))) j (λ _ h. h) (λ _ h. later_stays (name_len s) (behind_name (drop (name_len s) s)) (behind_name (drop (name_len s) s ++ b)) j (λ i g sum. name_end_stays (drop (name_len s) s) b i g) h) e)
 
 pub variable_stays : (x y : ℕ) (s b : List ℕ) (n : ℕ) → variable_len (x ∷ y ∷ s) ≡ Some n → variable_len (x ∷ y ∷ (s ++ b)) ≡ Some n
 variable_stays x y s b n e = later_stays 2 (behind_dollar s) (behind_dollar (s ++ b)) n (λ j h sum. dollar_stays s b j h) e
@@ -135,9 +135,9 @@ word_stays s b k e h = parts_stay ends_word word_part word_ends_stay (λ x y s b
 -- a double-quoted text
 pair_stays : (x y : ℕ) (s b : List ℕ) (n : ℕ) → pair_part (x ∷ y ∷ s) ≡ Some n → pair_part (x ∷ y ∷ (s ++ b)) ≡ Some n
 pair_stays x y s b n e =
-  let front : nat_le 2 (length (x ∷ y ∷ s)) ≡ true = grind (arith, nat_tests) in
-  let whole : nat_le 2 (length (x ∷ y ∷ (s ++ b))) ≡ true = grind (arith, nat_tests) in
-  rw whole (rw front at e)
+    let front : nat_le 2 (length (x ∷ y ∷ s)) ≡ true = grind (arith, nat_tests) in
+    let whole : nat_le 2 (length (x ∷ y ∷ (s ++ b))) ≡ true = grind (arith, nat_tests) in
+    rw whole (rw front at e)
 
 body_stays : (s b : List ℕ) (k : ℕ) → body_len s ≡ Some k → k < length s → body_len (s ++ b) ≡ Some k
 body_stays s b k e h = parts_stay at_quote pair_part (λ x s b e. e) (λ x y s b e. e) pair_stays 0 s b k e h
@@ -152,16 +152,16 @@ and_true false u e = absurd (cc)
 
 double_at : (t b : List ℕ) (k n : ℕ) → body_len t ≡ Some k → (if at_quote (drop k t) && is_quotable (take k t) then Some (k + 1) else None) ≡ Some n → (body_len (t ++ b) ≡ Some k) × ((if at_quote (drop k (t ++ b)) && is_quotable (take k (t ++ b)) then Some (k + 1) else None) ≡ Some n)
 double_at t b k n h e =
-  let tests : (at_quote (drop k t) ≡ true) × (is_quotable (take k t) ≡ true) = given (at_quote (drop k t) && is_quotable (take k t)) (Some (k + 1)) None n (λ g _. and_true (at_quote (drop k t)) (is_quotable (take k t)) g) (λ _ g. absurd (cc)) e in
-  let quote = quote_stays (drop k t) b tests.0 in
-  let count : length (drop k t) ≡ length t - k = length-drop k t in
-  let some : 0 < length (drop k t) = quote.0 in
-  let low : k < length t = omega arith in
-  let cut : drop k (t ++ b) ≡ drop k t ++ b = drop-append-le k t b (omega arith) in
-  let front : take k (t ++ b) ≡ take k t = take-append-le k t b (omega arith) in
-  let test : (at_quote (drop k (t ++ b)) && is_quotable (take k (t ++ b))) ≡ true = rw (cut, front, quote.1, tests.1) refl in
-  let same : (at_quote (drop k t) && is_quotable (take k t)) ≡ true = rw (tests.0, tests.1) refl in
-  (body_stays t b k h low, ap (λ u. if u then Some (k + 1) else None) (test ∙ sym same) ∙ e)
+    let tests : (at_quote (drop k t) ≡ true) × (is_quotable (take k t) ≡ true) = given (at_quote (drop k t) && is_quotable (take k t)) (Some (k + 1)) None n (λ g _. and_true (at_quote (drop k t)) (is_quotable (take k t)) g) (λ _ g. absurd (cc)) e in
+    let quote = quote_stays (drop k t) b tests.0 in
+    let count : length (drop k t) ≡ length t - k = length-drop k t in
+    let some : 0 < length (drop k t) = quote.0 in
+    let low : k < length t = omega arith in
+    let cut : drop k (t ++ b) ≡ drop k t ++ b = drop-append-le k t b (omega arith) in
+    let front : take k (t ++ b) ≡ take k t = take-append-le k t b (omega arith) in
+    let test : (at_quote (drop k (t ++ b)) && is_quotable (take k (t ++ b))) ≡ true = rw (cut, front, quote.1, tests.1) refl in
+    let same : (at_quote (drop k t) && is_quotable (take k t)) ≡ true = rw (tests.0, tests.1) refl in
+    (body_stays t b k h low, ap (λ u. if u then Some (k + 1) else None) (test ∙ sym same) ∙ e)
 
 pub double_stays : (t b : List ℕ) (n : ℕ) → behind_double t ≡ Some n → behind_double (t ++ b) ≡ Some n
 double_stays t b n e = bind_stays (body_len t) (body_len (t ++ b)) (λ k. if at_quote (drop k t) && is_quotable (take k t) then Some (k + 1) else None) (λ k. if at_quote (drop k (t ++ b)) && is_quotable (take k (t ++ b)) then Some (k + 1) else None) n (λ k h g. double_at t b k n h g) e

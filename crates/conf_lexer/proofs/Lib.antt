@@ -5,3 +5,5 @@ pub mod Whole
 pub mod Behind
 pub mod Within
 pub mod Joined
+pub mod Standing
+pub mod Names

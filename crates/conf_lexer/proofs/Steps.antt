@@ -1,5 +1,5 @@
 -- Extents that are found part by part.
-use Rattle.std.proofs.Common.{◌≡◌, ℕ, zero, suc, ◌+◌, ◌-◌, ◌<◌, ◌≤◌, Bool, true, false, Option, Some, None, is_some, List, [], ◌∷◌, length, take, drop, codes, get_or, cond, arith, refl, ap, sym, ◌∙◌, add_assoc}
+use Rattle.std.proofs.Common.{◌≡◌, ℕ, zero, suc, ◌+◌, ◌-◌, ◌<◌, ◌≤◌, Bool, true, false, Option, Some, None, is_some, List, [], ◌∷◌, length, drop, codes, arith, refl, ap, sym, ◌∙◌, add_assoc}
 use Rattle.conf_lexer.specs.Text.{◌>>=◌, begins, ends_word, later, parts_len, through_comment, word_len, word_part}
 
 pub later_later : (m n : ℕ) (o : Option ℕ) → later m (later n o) ≡ later (m + n) o
@@ -25,19 +25,19 @@ parts_skip ends part zero [] h = refl
 parts_skip ends part zero (b ∷ rest) h = sym (later_zero _)
 parts_skip ends part (suc n) [] h = absurd (omega arith)
 parts_skip ends part (suc n) (b ∷ rest) h =
-  let tail : parts_len ends part n rest ≡ later n (parts_len ends part 0 (drop n rest)) = parts_skip ends part n rest (omega arith) in
-  let sum : 1 + n ≡ suc n = omega arith in
-  ap (later 1) tail ∙ later_later 1 n _ ∙ ap (λ k. later k (parts_len ends part 0 (drop n rest))) sum
+    let tail : parts_len ends part n rest ≡ later n (parts_len ends part 0 (drop n rest)) = parts_skip ends part n rest (omega arith) in
+    let sum : 1 + n ≡ suc n = omega arith in
+    ap (later 1) tail ∙ later_later 1 n _ ∙ ap (λ k. later k (parts_len ends part 0 (drop n rest))) sum
 
 -- a part, and then the rest
 pub parts_more : (ends : List ℕ → Bool) (part : List ℕ → Option ℕ) (n : ℕ) (rest : List ℕ) → 0 < length rest → ends rest ≡ false → part rest ≡ Some n → 0 < n → n ≤ length rest → parts_len ends part 0 rest ≡ later n (parts_len ends part 0 (drop n rest))
 parts_more ends part n [] h go e low high = absurd (omega arith)
 parts_more ends part zero (b ∷ rest) h go e low high = absurd (omega arith)
 parts_more ends part (suc n) (b ∷ rest) h go e low high =
-  let tail : parts_len ends part n rest ≡ later n (parts_len ends part 0 (drop n rest)) = parts_skip ends part n rest (omega arith) in
-  let sum : 1 + n ≡ suc n = omega arith in
-  let one : suc n - 1 ≡ n = omega arith in
-  rw (go, e, one) (ap (later 1) tail ∙ later_later 1 n _ ∙ ap (λ k. later k (parts_len ends part 0 (drop n rest))) sum)
+    let tail : parts_len ends part n rest ≡ later n (parts_len ends part 0 (drop n rest)) = parts_skip ends part n rest (omega arith) in
+    let sum : 1 + n ≡ suc n = omega arith in
+    let one : suc n - 1 ≡ n = omega arith in
+    rw (go, e, one) (ap (later 1) tail ∙ later_later 1 n _ ∙ ap (λ k. later k (parts_len ends part 0 (drop n rest))) sum)
 
 -- no part
 pub parts_none : (ends : List ℕ → Bool) (part : List ℕ → Option ℕ) (rest : List ℕ) → 0 < length rest → ends rest ≡ false → part rest ≡ None → parts_len ends part 0 rest ≡ None

@@ -1,2 +1,5 @@
 -- definitions that contracts cite
 pub mod Text
+pub mod Standing
+pub mod Joined
+pub mod Names

@@ -1,6 +1,6 @@
 -- What the tokens of a text are: the first piece of a text, rule by rule, and then the whole text. The language is this project's own.
-use Rattle.std.specs.Prelude.{ℕ, zero, suc, ◌+◌, ◌-◌, ◌==◌, ◌||◌, ◌&&◌, Bool, false, not, nat_eq, nat_le, nat_lt, List, [], ◌∷◌, ◌++◌, length, map, take, drop, codes, Option, Some, None, is_some, option_map, option_to_list, true, ◌≡◌, Result, Ok, Err, if◌then◌else◌}
-use Rattle.std.specs.List.{position, prefix_len, starts_with}
+use Rattle.std.specs.Prelude.{ℕ, zero, suc, ◌+◌, ◌-◌, ◌==◌, ◌||◌, ◌&&◌, Bool, false, not, nat_eq, nat_le, nat_lt, List, [], ◌∷◌, ◌++◌, length, take, drop, codes, Option, Some, None, is_some, option_map, option_to_list, true, ◌≡◌, Result, Ok, Err, if◌then◌else◌}
+use Rattle.std.specs.List.{list_all, position, prefix_len, starts_with}
 use Rattle.std.specs.Str.{is_utf8}
 use Rattle.conf_lexer.specs.declared.pieces.Piece.{Piece}
 use Rattle.conf_lexer.specs.declared.tokens.LexFault.{LexFault}
@@ -65,7 +65,7 @@ behind_dollar text = if name_len text == 0 then None else later (name_len text) 
 abbrev pub variable_len : List ℕ → Option ℕ
 variable_len text = later 2 (behind_dollar (drop 2 text))
 
--- a part of a bare word, a variable or a byte
+-- a part of a bare word: a variable or a byte
 abbrev pub word_part : List ℕ → Option ℕ
 word_part text = if begins text (codes "${") then variable_len text else Some 1
 
@@ -93,13 +93,15 @@ parts_len ends part zero (b ∷ rest) = if ends (b ∷ rest) then Some 0 else (p
 abbrev pub word_len : List ℕ → Option ℕ
 word_len text = parts_len ends_word word_part 0 text
 
--- each backslash takes the next byte with it; at the end of a text there is none
+-- a byte, but a backslash takes the next one with it; at the end of a text there is none
 abbrev pub pair_part : List ℕ → Option ℕ
 pair_part text = if begins text (codes "\\") then (if nat_le 2 (length text) then Some 2 else None) else Some 1
 
+-- a double quote stands here
 abbrev pub at_quote : List ℕ → Bool
 at_quote text = begins text (codes "\"")
 
+-- parts that end only where the text does
 abbrev pub never : List ℕ → Bool
 never text = false
 
@@ -131,30 +133,35 @@ comment_len text = later 2 (through_comment (drop 2 text))
 abbrev pub skipped : Option ℕ → Option Piece
 skipped len = len >>= λ n. Some (record { kind = None; len = n })
 
+-- the bytes are UTF-8; bytes below 128 are so at once, so that this computes at the texts of a proof
+abbrev pub is_text : List ℕ → Bool
+is_text bytes = list_all (λ b. nat_lt b 128) bytes || is_utf8 bytes
+
 -- a token whose bytes are to be UTF-8
 abbrev pub spelled : TokenKind → List ℕ → Option ℕ → Option Piece
-spelled kind text len = len >>= λ n. if is_utf8 (take n text) then Some (record { kind = Some kind; len = n }) else None
+spelled kind text len = len >>= λ n. if is_text (take n text) then Some (record { kind = Some kind; len = n }) else None
 
 -- a comment to the end of the line begins here
 abbrev pub begins_line : ℕ → List ℕ → Bool
 begins_line b text = b == 35 || begins text (codes "//")
 
--- the bytes before the end of the line, behind the first one
+-- a first byte, and the bytes behind it before the end of the line
 abbrev pub line_len : List ℕ → ℕ
 line_len text = 1 + prefix_len (λ c. not (c == 10)) (drop 1 text)
 
--- the first piece of a text that begins with that byte: white space, a token or a comment
+-- the first piece of a text that begins with that byte: a byte of white space, a token or a comment
 abbrev pub piece_at : ℕ → List ℕ → Option Piece
 piece_at b text =
-  if is_space b then skipped (Some 1) else (
-  if is_some (mark_of b) then Some (record { kind = mark_of b; len = 1 }) else (
-  if b == 34 then spelled Double text (double_len text) else (
-  if b == 39 then spelled Single text (single_len text) else (
-  if begins_line b text then skipped (Some (line_len text)) else (
-  if begins text (codes "/*") then skipped (comment_len text) else (
-  if begins text (codes "+=") then Some (record { kind = Some PlusEquals; len = 2 }) else
-  spelled Word text (word_len text)))))))
+    if is_space b then skipped (Some 1) else (
+    if is_some (mark_of b) then Some (record { kind = mark_of b; len = 1 }) else (
+    if b == 34 then spelled Double text (double_len text) else (
+    if b == 39 then spelled Single text (single_len text) else (
+    if begins_line b text then skipped (Some (line_len text)) else (
+    if begins text (codes "/*") then skipped (comment_len text) else (
+    if begins text (codes "+=") then Some (record { kind = Some PlusEquals; len = 2 }) else
+    spelled Word text (word_len text)))))))
 
+-- the first piece of a text; the empty text has none
 abbrev pub piece_of : List ℕ → Option Piece
 piece_of [] = None
 piece_of (b ∷ rest) = piece_at b (b ∷ rest)
@@ -187,68 +194,3 @@ tokens_of text = tokens_from 0 0 text
 abbrev pub Refuses : List ℕ → LexFault → Type 0
 Refuses text (BadText place) = tokens_of text ≡ Err place
 Refuses text NoMemory = Unit {0}
-
--- a bare word, and a comment to the end of the line, may go on in what is put behind them
-abbrev pub is_word : Option TokenKind → Bool
-is_word (Some Word) = true
-is_word other = false
-
-abbrev pub goes_on : List ℕ → Piece → Bool
-goes_on [] p = false
-goes_on (b ∷ rest) p = begins_line b (b ∷ rest) || is_word p.kind
-
--- the first piece of a text has a byte behind it, or is one that doesn't go on
-abbrev pub is_closed : List ℕ → Piece → Bool
-is_closed text p = nat_lt p.len (length text) || not (goes_on text p)
-
-abbrev pub closes_then : List ℕ → Option Piece → (ℕ → Bool) → Bool
-closes_then text None rest = false
-closes_then text (Some p) rest = is_closed text p && rest (p.len - 1)
-
--- the text has tokens, and its last piece doesn't go on in what is put behind it; so many of its bytes are the rest of a piece
-abbrev pub closes_from : ℕ → List ℕ → Bool
-closes_from n [] = true
-closes_from (suc n) (b ∷ rest) = closes_from n rest
-closes_from zero (b ∷ rest) = closes_then (b ∷ rest) (piece_of (b ∷ rest)) (λ n. closes_from n rest)
-
-abbrev pub closes : List ℕ → Bool
-closes text = closes_from 0 text
-
--- tokens, so many bytes further on
-abbrev pub moved_token : ℕ → Token → Token
-moved_token n t = record { kind = t.kind; span = record { at = n + t.span.at; len = t.span.len } }
-
-abbrev pub moved : ℕ → Result (List Token) ℕ → Result (List Token) ℕ
-moved n (Ok tokens) = Ok (map (moved_token n) tokens)
-moved n (Err place) = Err (n + place)
-
--- tokens, and then those of what is behind them
-abbrev pub both : Result (List Token) ℕ → Result (List Token) ℕ → Result (List Token) ℕ
-both (Ok tokens) more = followed tokens more
-both (Err place) more = Err place
-
--- what two texts say together, where the first one closes
-abbrev pub Joins : Type 0
-Joins = (a b : List ℕ) → closes a ≡ true → tokens_of (a ++ b) ≡ both (tokens_of a) (moved (length a) (tokens_of b))
-
--- the text is these pieces, one after another, and then the rest
-abbrev pub ArePieces : List ℕ → List Piece → List ℕ → Type 0
-ArePieces text [] rest = text ≡ rest
-ArePieces text (p ∷ ps) rest = (piece_of text ≡ Some p) × ArePieces (drop p.len text) ps rest
-
--- the tokens of pieces of which the first stands at a place, and the place behind them
-abbrev pub piece_tokens : ℕ → List Piece → List Token
-piece_tokens at [] = []
-piece_tokens at (p ∷ ps) = tokens_at at p ++ piece_tokens (at + p.len) ps
-
-abbrev pub place_behind : ℕ → List Piece → ℕ
-place_behind at [] = at
-place_behind at (p ∷ ps) = place_behind (at + p.len) ps
-
--- the tokens of a text are those of its pieces, whichever list of them is given
-abbrev pub HasTokens : Type 0
-HasTokens = (text : List ℕ) (ps : List Piece) → ArePieces text ps [] → tokens_of text ≡ Ok (piece_tokens 0 ps)
-
--- a text has no tokens where a rest has no first piece, and the refusal names the start of that rest
-abbrev pub HasNone : Type 0
-HasNone = (text : List ℕ) (ps : List Piece) (b : ℕ) (rest : List ℕ) → ArePieces text ps (b ∷ rest) → piece_of (b ∷ rest) ≡ None → tokens_of text ≡ Err (place_behind 0 ps)

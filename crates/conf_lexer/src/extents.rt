@@ -121,7 +121,9 @@ fn quotable(body: &[u8]) -> bool
 {
     let mut rest = body;
     while !rest.is_empty() {
-        let Some(part) = quoted_part_length(rest) else { return false };
+        let Some(part) = quoted_part_length(rest) else {
+            return false
+        };
         rest = rest.split_at(part).1;
     }
     true
@@ -133,5 +135,9 @@ pub fn double_length(text: &[u8]) -> Option<usize>
     ensures within { IfSome result (λ n. n ≤ length text.now) }
 {
     let (body, rest) = text.split_at(body_length(text)?);
-    if quote_stands(rest) && quotable(body) { Some(body.len() + 1) } else { None }
+    if quote_stands(rest) && quotable(body) {
+        Some(body.len() + 1)
+    } else {
+        None
+    }
 }

@@ -1,4 +1,5 @@
-ghost use Rattle.std.specs.Prelude.{◌≡◌, ◌++◌, IfErr, IfOk, Ok, OnOk};
+ghost use Rattle.std.specs.Prelude.{All, ◌≡◌, ◌++◌, IfErr, IfOk, Ok, OnOk};
+ghost use Rattle.conf_lexer.specs.Standing.{InOrder, StandsIn};
 ghost use Rattle.conf_lexer.specs.Text.{Refuses, tokens_at, tokens_of};
 
 use crate::pieces::{Piece, first_piece};
@@ -11,12 +12,16 @@ fn add_piece(tokens: &mut List<Token>, at: usize, piece: Piece) -> Result<(), Le
     ensures ok { OnOk result (tokens.new ≡ tokens.old ++ tokens_at at piece) }
     ensures err { IfErr result (λ e. e ≡ LexFault.NoMemory) }
 {
-    let Some(kind) = piece.kind else { return Ok(()) };
+    let Some(kind) = piece.kind else {
+        return Ok(())
+    };
     let span = Span {
         at: at as u64,
         len: piece.len as u64,
     };
-    tokens.push(Token { kind, span }).map_err(|_| LexFault::NoMemory)?;
+    tokens
+        .push(Token { kind, span })
+        .map_err(|_| LexFault::NoMemory)?;
     Ok(())
 }
 
@@ -26,6 +31,8 @@ fn add_piece(tokens: &mut List<Token>, at: usize, piece: Piece) -> Result<(), Le
 pub fn lex(alloc: Global, text: &[u8]) -> Result<List<Token>, LexFault>
     ensures ok { IfOk result (λ tokens. tokens_of text.now ≡ Ok tokens) }
     ensures err { IfErr result (Refuses text.now) }
+    ensures each { IfOk result (All (StandsIn text.now)) }
+    ensures order { IfOk result (InOrder 0) }
 {
     let mut tokens = List::new(alloc);
     let mut at = 0;

@@ -9,7 +9,7 @@ mod pieces;
 mod tokens;
 mod variables;
 
-pub use laws::{joined_texts, texts_in_pieces};
+pub use laws::{joined_texts, names_in_texts, texts_in_pieces};
 pub use lexing::lex;
 pub use tokens::{LexFault, Token, TokenKind};
 

@@ -41,5 +41,8 @@ pub fn word_ends(text: &[u8]) -> bool
     ensures { result ≡ ends_word text.now }
 {
     let [first, ..] = text else { return true };
-    is_space_byte(*first) || matches!(*first, b'"' | b'\'') || mark(*first).is_some() || text.starts_with(b"+=")
+    is_space_byte(*first)
+        || matches!(*first, b'"' | b'\'')
+        || mark(*first).is_some()
+        || text.starts_with(b"+=")
 }

@@ -1,6 +1,5 @@
 ghost use Rattle.std.specs.Prelude.{◌≡◌, ◌≤◌, ◌<◌, length, IfSome};
-ghost use Rattle.std.specs.Str.{is_utf8};
-ghost use Rattle.conf_lexer.specs.Text.{comment_len, double_len, piece_of, single_len, spelled};
+ghost use Rattle.conf_lexer.specs.Text.{comment_len, double_len, is_text, piece_of, single_len, spelled};
 
 use crate::extents::{comment_length, double_length, line_length, word_length};
 use crate::marks::{is_space_byte, mark};
@@ -44,7 +43,7 @@ fn single_text_length(text: &[u8]) -> Option<usize>
 
 #[tactic(auto, using(crate::proofs::Utf8::utf8_yes, crate::proofs::Utf8::utf8_no))]
 fn utf8(bytes: &[u8]) -> bool
-    ensures { result ≡ is_utf8 bytes.now }
+    ensures { result ≡ is_text bytes.now }
 {
     match str::from_utf8(bytes) {
         Ok(_) => true,
@@ -62,7 +61,10 @@ fn spelled_piece(kind: TokenKind, text: &[u8], len: Option<usize>) -> Option<Pie
     if !utf8(text.split_at(len).0) {
         return None;
     }
-    Some(Piece { kind: Some(kind), len })
+    Some(Piece {
+        kind: Some(kind),
+        len,
+    })
 }
 
 // The first piece of a text.
@@ -75,7 +77,10 @@ pub fn first_piece(text: &[u8]) -> Option<Piece>
         return Some(Piece { kind: None, len: 1 });
     }
     if let Some(kind) = mark(*first) {
-        return Some(Piece { kind: Some(kind), len: 1 });
+        return Some(Piece {
+            kind: Some(kind),
+            len: 1,
+        });
     }
     if *first == b'"' {
         return spelled_piece(TokenKind::Double, text, double_text_length(text));
@@ -84,13 +89,22 @@ pub fn first_piece(text: &[u8]) -> Option<Piece>
         return spelled_piece(TokenKind::Single, text, single_text_length(text));
     }
     if *first == b'#' || text.starts_with(b"//") {
-        return Some(Piece { kind: None, len: 1 + line_length(text.split_at(1).1) });
+        return Some(Piece {
+            kind: None,
+            len: 1 + line_length(text.split_at(1).1),
+        });
     }
     if text.starts_with(b"/*") {
-        return Some(Piece { kind: None, len: block_length(text)? });
+        return Some(Piece {
+            kind: None,
+            len: block_length(text)?,
+        });
     }
     if text.starts_with(b"+=") {
-        return Some(Piece { kind: Some(TokenKind::PlusEquals), len: 2 });
+        return Some(Piece {
+            kind: Some(TokenKind::PlusEquals),
+            len: 2,
+        });
     }
     spelled_piece(TokenKind::Word, text, word_length(text))
 }

@@ -1,4 +1,4 @@
-use Rattle.std.proofs.Common.{◌∙◌, refl, arith, rules}
+use Rattle.std.proofs.Common.{◌∙◌, refl, rules}
 use Rattle.conf_lexer.specs.Text.{never, quoted_part}
 use Rattle.conf_lexer.proofs.Steps.{sound_step}
 use Rattle.conf_lexer.proofs.extents.quotable.Goals as goal
