@@ -1,4 +1,4 @@
-use Rattle.std.proofs.Common.{◌≡◌, ℕ, List, length, ap, subst, Bool, true, false, if◌then◌else◌, ◌^◌, ◌-◌, ◌<◌, ◌∙◌, sym, arith}
+use Rattle.std.proofs.Common.{◌≡◌, ℕ, List, length, ap, subst, Bool, true, false, if◌then◌else◌, ◌^◌, ◌-◌, ◌<◌, ◌∙◌, arith}
 use Rattle.gpt_table.specs.Gpt.{EntryFits, entries_byte, header_byte, entry_sectors, last_sector, slot_of}
 use Rattle.gpt_table.specs.declared.entry.GptEntry.{GptEntry}
 use Rattle.gpt_table.specs.declared.header.GptHeader.{GptHeader}
