@@ -161,6 +161,7 @@ fn no_backup(rt: HostRuntime) -> Result<(), Fail> {
     let heads = gpt(&spec, bytes.as_mut_slice());
     assert_eq!(rt; &heads.front[..92], LONE_FRONT.as_slice());
     assert_eq!(rt; heads.back, [0; 512]);
+    gpt_holds();
     gpt_reads_back();
     Ok(())
 }
