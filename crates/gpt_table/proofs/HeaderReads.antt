@@ -1,11 +1,9 @@
 -- An image that has the bytes of a header reads there as it.
-use Rattle.std.specs.Prelude.{◌≡◌, ◌≢◌, ℕ, ◌+◌, ◌*◌, ◌^◌, ◌<◌, ◌≤◌, List, [], ◌∷◌, ◌++◌, codes, length, get_or, replicate, take, drop}
+use Rattle.std.specs.Prelude.{◌≡◌, ◌≢◌, ℕ, ◌+◌, ◌*◌, ◌^◌, ◌<◌, ◌≤◌, List, [], ◌∷◌, ◌++◌, codes, length, replicate, take, drop}
 use Rattle.std.proofs.Common.{refl, ◌∙◌, sym, ap, arith}
 use Rattle.std.proofs.lemmas.Grind.{common_steps}
-use Rattle.byteorder.specs.Endian.{little_bytes}
 use Rattle.base_fields.specs.Crc.{crc32_of}
-use Rattle.base_fields.specs.Fields.{byte_of, number_at}
-use Rattle.base_fields.specs.Numbers.{guid_order}
+use Rattle.base_fields.specs.Fields.{byte_of}
 use Rattle.gpt_table.specs.Runs.{joined}
 use Rattle.gpt_table.specs.Span.{bytes_at}
 use Rattle.gpt_table.specs.Gpt.{EntryFits, entries_byte, header_byte, header_fields, header_sum, slot_of, sum_of_entries}

@@ -1,5 +1,5 @@
 -- The bytes of a header.
-use Rattle.std.specs.Prelude.{◌≡◌, ℕ, ◌+◌, ◌<◌, ◌-◌, List, [], ◌++◌, length, get_or, replicate}
+use Rattle.std.specs.Prelude.{◌≡◌, ℕ, ◌-◌, List, ◌++◌, length, get_or, replicate}
 use Rattle.std.proofs.Common.{refl, ◌∙◌, sym, ap, arith}
 use Rattle.std.proofs.lemmas.Grind.{common_steps}
 use Rattle.std.proofs.Common.{inl, inr}
@@ -7,7 +7,6 @@ use Rattle.std.proofs.lemmas.Bool.{cases_lt}
 use Rattle.std.proofs.lemmas.List.{get_or_append_left, get_or-append_right, get_or_past}
 use Rattle.base_fields.specs.Crc.{crc32_of}
 use Rattle.base_fields.specs.Fields.{byte_of}
-use Rattle.base_fields.specs.Numbers.{guid_order}
 use Rattle.gpt_table.specs.Span.{bytes_at}
 use Rattle.gpt_table.specs.Runs.{joined}
 use Rattle.gpt_table.specs.Gpt.{header_byte, header_fields, header_sum}

@@ -8,3 +8,4 @@ pub mod Held
 pub mod SlotReads
 pub mod HeaderReads
 pub mod ReadsBack
+pub mod Parts

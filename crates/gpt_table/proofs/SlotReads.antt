@@ -1,14 +1,12 @@
 -- An image that has the bytes of a slot reads there as it.
-use Rattle.std.specs.Prelude.{◌≡◌, ℕ, zero, suc, ◌+◌, ◌*◌, ◌/◌, ◌%◌, ◌^◌, ◌<◌, List, [], ◌∷◌, ◌++◌, length, get_or, flat_map, replicate, slice_get, slice_index, slice_index_or, Option, Some, None}
-use Rattle.std.proofs.Common.{◌≤◌, refl, ◌∙◌, sym, ap, subst, arith, inl, inr}
+use Rattle.std.specs.Prelude.{◌≡◌, ℕ, ◌+◌, ◌*◌, ◌/◌, ◌%◌, ◌<◌, List, [], ◌∷◌, length, slice_get, Option}
+use Rattle.std.proofs.Common.{refl, ◌∙◌, sym, ap, subst, arith, inl, inr}
 use Rattle.std.proofs.lemmas.Bool.{cases_lt}
 use Rattle.std.proofs.lemmas.List.{get_or_past}
 use Rattle.std.proofs.lemmas.Option.{slice_get-get_or, slice_get_past}
-use Rattle.byteorder.specs.Endian.{little_bytes}
-use Rattle.base_fields.specs.Fields.{byte_of, number_at}
+use Rattle.base_fields.specs.Fields.{byte_of}
 use Rattle.base_fields.specs.Numbers.{guid_order}
 use Rattle.gpt_table.specs.Runs.{joined}
-use Rattle.gpt_table.specs.Span.{bytes_at}
 use Rattle.gpt_table.specs.Gpt.{EntryFits, entries_byte, entry_fields, no_entry, slot_byte, slot_of}
 use Rattle.gpt_table.specs.Reading.{guid_at, slot_at}
 use Rattle.gpt_table.specs.declared.entry.GptEntry.{GptEntry}
@@ -93,10 +91,10 @@ pub slots_read : (image : ℕ → ℕ) (o : ℕ) (entries : List GptEntry) → (
 slots_read image o entries fits same k inside =
     entry_reads image (o + 128 * k) (slot_of entries k) (slot_fits entries k fits)
     (λ j small.
-      let place : (128 * k + j) / 128 ≡ k = omega arith in
-      let within : (128 * k + j) % 128 ≡ j = omega arith in
-      ap image (omega arith)
-      ∙ (same (128 * k + j) (omega arith)
-      ∙ (ap (λ (n : ℕ). slot_byte (slice_get entries n) ((128 * k + j) % 128)) place
-      ∙ (ap (λ (n : ℕ). slot_byte (slice_get entries k) n) within
-      ∙ slot_byte-of entries k j))))
+    let place : (128 * k + j) / 128 ≡ k = omega arith in
+    let within : (128 * k + j) % 128 ≡ j = omega arith in
+    ap image (omega arith)
+    ∙ (same (128 * k + j) (omega arith)
+    ∙ (ap (λ (n : ℕ). slot_byte (slice_get entries n) ((128 * k + j) % 128)) place
+    ∙ (ap (λ (n : ℕ). slot_byte (slice_get entries k) n) within
+    ∙ slot_byte-of entries k j))))

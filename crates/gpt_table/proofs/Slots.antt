@@ -1,8 +1,8 @@
 -- The slots of a table, one after another.
-use Rattle.std.specs.Prelude.{◌≡◌, ℕ, zero, suc, ◌+◌, ◌-◌, ◌*◌, ◌/◌, ◌%◌, ◌<◌, List, [], ◌∷◌, ◌++◌, length, get_or, take, drop, reverse, flat_map, replicate, slice_get, Option, Some, None}
+use Rattle.std.specs.Prelude.{◌≡◌, ℕ, zero, suc, ◌+◌, ◌-◌, ◌*◌, ◌/◌, ◌%◌, ◌<◌, List, [], ◌∷◌, ◌++◌, length, get_or, take, drop, flat_map, replicate, slice_get}
 use Rattle.std.proofs.Common.{◌≤◌, refl, ◌∙◌, sym, ap, arith}
 use Rattle.std.proofs.lemmas.Grind.{common_steps}
-use Rattle.std.proofs.lemmas.List.{get_or_append_left, get_or-append-add, length-append, get_or-replicate, length-take-le, length_push, take_at, drop_at, drop-drop, drop-replicate, flat_map_more, append_assoc}
+use Rattle.std.proofs.lemmas.List.{get_or_append_left, get_or-append-add, length-append, length-take-le, length_push, take_at, drop_at, drop-drop, drop-replicate, flat_map_more, append_assoc}
 use Rattle.byteorder.specs.Endian.{little_bytes}
 use Rattle.base_fields.specs.Fields.{byte_of, written}
 use Rattle.base_fields.specs.Numbers.{guid_order}
@@ -108,8 +108,8 @@ filled_more es e n at room is has here fits =
     record {
       each = fit_more es e is.each has;
       bytes = ap (λ (xs : List ℕ). xs ++ slot_bytes e ++ drop (at + length (slot_bytes e)) room) cut
-      ∙ ap (λ (xs : List ℕ). flat_map slot_bytes es ++ slot_bytes e ++ xs) rest
-      ∙ ap (λ (xs : List ℕ). xs ++ replicate (n - 128 * length (es ++ e ∷ [])) 0) (flat_map_more slot_bytes [] es e);
+          ∙ ap (λ (xs : List ℕ). flat_map slot_bytes es ++ slot_bytes e ++ xs) rest
+          ∙ ap (λ (xs : List ℕ). xs ++ replicate (n - 128 * length (es ++ e ∷ [])) 0) (flat_map_more slot_bytes [] es e);
     }
 
 -- one more turn of the loop that fills the room

@@ -1,6 +1,6 @@
 -- The GUID partition table (UEFI 2.10, section 5.3), as fields at their offsets. Z is the sector size, LBA n the sector
 -- number n, which begins at the byte n * Z.
-use Rattle.std.specs.Prelude.{◌≡◌, ◌≢◌, ℕ, ◌+◌, ◌-◌, ◌*◌, ◌/◌, ◌%◌, ◌^◌, ◌<◌, ◌≤◌, ◌⊎◌, List, [], ◌∷◌, Option, Some, None, Bool, if◌then◌else◌, flat_map, codes, slice_get, slice_index, slice_index_or, length, max, replicate}
+use Rattle.std.specs.Prelude.{◌≡◌, ◌≢◌, ℕ, ◌+◌, ◌-◌, ◌*◌, ◌/◌, ◌%◌, ◌^◌, ◌<◌, ◌≤◌, ◌⊎◌, List, [], ◌∷◌, Option, Some, None, if◌then◌else◌, flat_map, codes, slice_get, slice_index, slice_index_or, length, max, replicate}
 use Rattle.byteorder.specs.Endian.{little_bytes}
 use Rattle.base_fields.specs.Crc.{crc32_of}
 use Rattle.base_fields.specs.Fields.{Field, number, byte_of}

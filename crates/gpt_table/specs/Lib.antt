@@ -6,3 +6,4 @@ pub mod Runs
 pub mod Span
 pub mod Gpt
 pub mod Reading
+pub mod Parts

@@ -28,10 +28,13 @@ pub struct GptHeader {
     pub own: u64,
     /// Where the other header stands.
     pub other: u64,
+    /// The first sector that a partition may have.
     pub first_usable: u64,
+    /// The last sector that a partition may have.
     pub last_usable: u64,
     /// The disk's GUID, in the order of RFC 9562.
     pub disk: [u8; 16],
+    /// Where the entries stand.
     pub entries_at: u64,
     /// The CRC-32 of all 128 entries.
     pub entries_sum: u32,

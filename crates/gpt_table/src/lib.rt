@@ -8,7 +8,7 @@ mod table;
 
 pub use entry::GptEntry;
 pub use header::GptHeader;
-pub use laws::gpt_reads_back;
+pub use laws::{gpt_holds, gpt_reads_back};
 pub use table::{GptHeads, GptSpec, gpt};
 
 #[cfg(test)]

@@ -28,8 +28,9 @@ pub struct GptSpec {
 /// The first 512 bytes of each header's sector; the rest of a larger sector is zeros.
 #[derive(Clone, Copy, Debug, PartialEq, Eq)]
 pub struct GptHeads {
+    /// That of the header at LBA 1.
     pub front: [u8; 512],
-    /// All zeros where there is no backup.
+    /// That of the header in the last sector, all zeros where there is no backup.
     pub back: [u8; 512],
 }
 
@@ -132,7 +133,7 @@ pub fn gpt(spec: &GptSpec, entries: &mut [u8]) -> GptHeads
     ensures entries { (o : ℕ) → o < 16384 → slice_index entries.new o ≡ entries_byte spec.now.entries o }
     ensures front { (o : ℕ) → o < 512 → slice_index result.front o ≡ front_byte spec.now o }
     ensures back { (o : ℕ) → o < 512 → slice_index result.back o ≡ back_byte spec.now o }
-    ensures kept { spec.now.entries_at ≢ 0 → GptFits spec.now }
+    ensures readable { spec.now.entries_at ≢ 0 → GptFits spec.now }
 {
     put_entries(spec.entries.as_slice(), entries);
     let sum = crc32(entries);

@@ -117,8 +117,8 @@ fn one_partition(rt: HostRuntime) -> Result<(), Fail> {
     let mut bytes = room(rt.alloc(), 16384)?;
     let written = bytes.as_mut_slice();
     let heads = gpt(&spec, written);
-    assert_eq!(rt; &written[..128], SMALL_ENTRY.as_slice());
-    assert!(rt; written[128..].iter().all(|byte| *byte == 0));
+    assert!(rt; written.starts_with(&SMALL_ENTRY));
+    assert!(rt; written.iter().skip(128).all(|byte| *byte == 0));
     assert_eq!(rt; &heads.front[..92], SMALL_FRONT.as_slice());
     assert_eq!(rt; &heads.front[92..], [0u8; 420].as_slice());
     assert_eq!(rt; &heads.back[..92], SMALL_BACK.as_slice());
@@ -161,5 +161,7 @@ fn no_backup(rt: HostRuntime) -> Result<(), Fail> {
     let heads = gpt(&spec, bytes.as_mut_slice());
     assert_eq!(rt; &heads.front[..92], LONE_FRONT.as_slice());
     assert_eq!(rt; heads.back, [0; 512]);
+    gpt_holds();
+    gpt_reads_back();
     Ok(())
 }

@@ -1,4 +1,4 @@
-use Rattle.std.proofs.Common.{◌≡◌, ◌∷◌, [], ℕ, List, length, replicate, codes, refl, ◌∙◌, sym, arith}
+use Rattle.std.proofs.Common.{◌≡◌, ℕ, List, length, replicate, ◌∙◌, sym, arith}
 use Rattle.gpt_table.specs.Gpt.{header_fields}
 use Rattle.gpt_table.proofs.Runs.{filled, filled_first, filled_none, filled_whole}
 use Rattle.gpt_table.proofs.Headers.{header_run, length-header}

@@ -1,4 +1,4 @@
-use Rattle.std.proofs.Common.{◌≡◌, ℕ, List, length, ap, subst, Bool, true, false, if◌then◌else◌, ◌^◌, ◌-◌, ◌<◌, ◌∙◌, sym, arith}
+use Rattle.std.proofs.Common.{◌≡◌, ℕ, List, length, ap, subst, Bool, true, false, if◌then◌else◌, ◌^◌, ◌-◌, ◌<◌, ◌∙◌, arith}
 use Rattle.gpt_table.specs.Gpt.{EntryFits, entries_byte, header_byte, entry_sectors, last_sector, slot_of}
 use Rattle.gpt_table.specs.declared.entry.GptEntry.{GptEntry}
 use Rattle.gpt_table.specs.declared.header.GptHeader.{GptHeader}
@@ -22,8 +22,8 @@ last_fits : (backup : Bool) (last usable : ℕ) → (if backup then last else 1)
 last_fits true last usable other used = other
 last_fits false last usable other used = used
 
-pub returns-clause-kept : goal.returns-clause-kept
-returns-clause-kept c nonzero =
+pub returns-clause-readable : goal.returns-clause-readable
+returns-clause-readable c nonzero =
     let spec = c.args.spec.now in
     let value : c.as_slice.result.now ≡ c.args.spec.now.entries = c.as_slice.ensures in
     record {

@@ -1,4 +1,4 @@
-use Rattle.std.proofs.Common.{◌≡◌, ℕ, Bool, if◌then◌else◌, ap, ◌∙◌, sym}
+use Rattle.std.proofs.Common.{Bool, if◌then◌else◌, ap, ◌∙◌, sym}
 use Rattle.gpt_table.specs.Gpt.{back_header, header_byte}
 use Rattle.gpt_table.proofs.Slots.{zeros_are_zero}
 use Rattle.gpt_table.proofs.table.GptSpec.back_head.Goals as goal
