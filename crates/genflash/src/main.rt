@@ -4,9 +4,8 @@
 
 use image_jobs::run;
 use outside::{HostFiles, HostPrinter};
-use std::env;
-use std::io;
 use std::process::ExitCode;
+use std::{env, io};
 
 /// The status where memory is refused before there is an answer.
 const NO_MEMORY: u8 = 11;
