@@ -4,3 +4,5 @@ mod CrcTable
 mod Guid
 mod Multiples
 mod Writes
+pub mod FieldRuns
+pub mod Images

@@ -15,6 +15,11 @@ pub record Field : Type 0 where
 abbrev pub number : ℕ → ℕ → ℕ → Field
 number at width value = record { at = at; bytes = little_bytes width value }
 
+-- the bytes of fields one after another
+abbrev pub joined : List Field → List ℕ
+joined [] = []
+joined (f ∷ fs) = f.bytes ++ joined fs
+
 -- whether a field has an offset
 abbrev pub reaches : Field → ℕ → Bool
 reaches f o = nat_le f.at o && nat_lt o (f.at + length f.bytes)

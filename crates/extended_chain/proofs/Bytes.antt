@@ -3,9 +3,8 @@ use Rattle.std.specs.Prelude.{◌≡◌, ℕ, ◌+◌, ◌-◌, ◌<◌, List, �
 use Rattle.std.proofs.Common.{arith, refl, ap, ◌∙◌, sym, inl, inr}
 use Rattle.std.proofs.lemmas.Bool.{cases_lt}
 use Rattle.std.proofs.lemmas.List.{get_or_append_left, get_or-append_right, get_or-replicate, length-replicate, append-nil, take-replicate, drop-replicate}
-use Rattle.base_fields.specs.Fields.{Field, byte_of, written}
-use Rattle.mbr_table.specs.Mbr.{joined}
-use Rattle.mbr_table.proofs.Runs.{IsRun, byte_of-before_run, byte_of-run}
+use Rattle.base_fields.specs.Fields.{Field, byte_of, written, joined}
+use Rattle.base_fields.proofs.FieldRuns.{IsRun, byte_of-before_run, byte_of-run}
 
 -- bytes that are written at the end of zeros
 pub zeros_then : (n m : ℕ) (xs : List ℕ) → length xs ≡ m → written (replicate (n + m) 0) n xs ≡ replicate n 0 ++ xs

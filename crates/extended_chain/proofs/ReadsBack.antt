@@ -3,11 +3,12 @@ use Rattle.std.specs.Prelude.{◌≡◌, ℕ, suc, ◌+◌, ◌-◌, ◌*◌, �
 use Rattle.std.proofs.Common.{arith, refl, ◌∙◌, sym, ap, subst, lit<, add-zero}
 use Rattle.std.proofs.lemmas.List.{length-map}
 use Rattle.std.proofs.lemmas.Bool.Decides.{nat_tests}
-use Rattle.base_fields.specs.Fields.{byte_of}
-use Rattle.mbr_table.specs.Mbr.{is_empty, joined}
+use Rattle.base_fields.specs.Fields.{byte_of, joined}
+use Rattle.mbr_table.specs.Mbr.{is_empty}
 use Rattle.mbr_table.specs.Reading.{EntryFits}
-use Rattle.mbr_table.proofs.Runs.{byte_of-run, run_passes}
-use Rattle.mbr_table.proofs.SlotReads.{Has, part_of, same_entry, slot_reads}
+use Rattle.base_fields.proofs.FieldRuns.{byte_of-run, run_passes}
+use Rattle.mbr_table.proofs.SlotReads.{same_entry, slot_reads}
+use Rattle.base_fields.proofs.Images.{Has, part_of}
 use Rattle.mbr_table.specs.declared.mbr.MbrEntry.{MbrEntry}
 use Rattle.extended_chain.specs.Chain.{Ascends, boot_fields, link_to, logical_of, own_entry}
 use Rattle.extended_chain.specs.ChainReading.{ChainFrom, ChainReadsBack, LogicalFits, RecordReads, link_at, logical_entry, own_at}

@@ -1,6 +1,5 @@
 ghost use Rattle.std.specs.Prelude.{◌≡◌, ℕ, ◌+◌, ◌^◌, ◌<◌, ◌≤◌, length, slice_get, slice_index, Some};
-ghost use Rattle.base_fields.specs.Fields.{byte_of, written};
-ghost use Rattle.mbr_table.specs.Mbr.{joined};
+ghost use Rattle.base_fields.specs.Fields.{byte_of, written, joined};
 ghost use Rattle.extended_chain.specs.Chain.{Ascends, link_to, own_entry, record_fields, start_of};
 
 use mbr_table::{MARK, MbrEntry, put_entry};

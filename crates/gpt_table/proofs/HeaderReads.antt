@@ -3,15 +3,15 @@ use Rattle.std.specs.Prelude.{◌≡◌, ◌≢◌, ℕ, ◌+◌, ◌*◌, ◌^�
 use Rattle.std.proofs.Common.{refl, ◌∙◌, sym, ap, arith}
 use Rattle.std.proofs.lemmas.Grind.{common_steps}
 use Rattle.base_fields.specs.Crc.{crc32_of}
-use Rattle.base_fields.specs.Fields.{byte_of}
-use Rattle.gpt_table.specs.Runs.{joined}
+use Rattle.base_fields.specs.Fields.{byte_of, joined}
 use Rattle.gpt_table.specs.Span.{bytes_at}
 use Rattle.gpt_table.specs.Gpt.{EntryFits, entries_byte, header_byte, header_fields, header_sum, slot_of, sum_of_entries}
 use Rattle.gpt_table.specs.Reading.{ReadsHeader, header_at}
 use Rattle.gpt_table.specs.declared.entry.GptEntry.{GptEntry}
 use Rattle.gpt_table.specs.declared.header.GptHeader.{GptHeader}
 use Rattle.gpt_table.proofs.Headers.{header_byte_of, header_run, header_sum_is, length-header}
-use Rattle.gpt_table.proofs.Held.{Has, Held, bytes_read, front_of, held_run, number_reads, rest_of}
+use Rattle.gpt_table.proofs.Held.{Held, bytes_read, held_run}
+use Rattle.base_fields.proofs.Images.{Has, front_of, number_reads, rest_of}
 use Rattle.gpt_table.proofs.SlotReads.{from_zero, guid_reads, slots_read}
 use Rattle.gpt_table.proofs.Spans.{same_bytes_at}
 use Rattle.gpt_table.proofs.Sums.{crc32_of-fits}

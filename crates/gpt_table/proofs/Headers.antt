@@ -6,12 +6,11 @@ use Rattle.std.proofs.Common.{inl, inr}
 use Rattle.std.proofs.lemmas.Bool.{cases_lt}
 use Rattle.std.proofs.lemmas.List.{get_or_append_left, get_or-append_right, get_or_past}
 use Rattle.base_fields.specs.Crc.{crc32_of}
-use Rattle.base_fields.specs.Fields.{byte_of}
+use Rattle.base_fields.specs.Fields.{byte_of, joined}
 use Rattle.gpt_table.specs.Span.{bytes_at}
-use Rattle.gpt_table.specs.Runs.{joined}
 use Rattle.gpt_table.specs.Gpt.{header_byte, header_fields, header_sum}
 use Rattle.gpt_table.specs.declared.header.GptHeader.{GptHeader}
-use Rattle.gpt_table.proofs.Runs.{IsRun, byte_of-run, byte_of-start}
+use Rattle.base_fields.proofs.FieldRuns.{IsRun, byte_of-run, byte_of-start}
 use Rattle.gpt_table.proofs.Slots.{length-guid, zeros_are_zero}
 use Rattle.gpt_table.proofs.Spans.{bytes_at-is}
 

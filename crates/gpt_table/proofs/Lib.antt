@@ -1,5 +1,5 @@
 -- lemmas on fields without gaps, and on slots
-pub mod Runs
+pub mod Filled
 pub mod Slots
 pub mod Headers
 pub mod Spans

@@ -4,15 +4,15 @@ use Rattle.std.proofs.Common.{refl, ◌∙◌, sym, ap, subst, arith, inl, inr}
 use Rattle.std.proofs.lemmas.Bool.{cases_lt}
 use Rattle.std.proofs.lemmas.List.{get_or_past}
 use Rattle.std.proofs.lemmas.Option.{slice_get-get_or, slice_get_past}
-use Rattle.base_fields.specs.Fields.{byte_of}
+use Rattle.base_fields.specs.Fields.{byte_of, joined}
 use Rattle.base_fields.specs.Numbers.{guid_order}
-use Rattle.gpt_table.specs.Runs.{joined}
 use Rattle.gpt_table.specs.Gpt.{EntryFits, entries_byte, entry_fields, no_entry, slot_byte, slot_of}
 use Rattle.gpt_table.specs.Reading.{guid_at, slot_at}
 use Rattle.gpt_table.specs.declared.entry.GptEntry.{GptEntry}
-use Rattle.gpt_table.proofs.Runs.{byte_of-start}
+use Rattle.base_fields.proofs.FieldRuns.{byte_of-start}
 use Rattle.gpt_table.proofs.Slots.{entry_run, length-entry, length-guid, zeros_are_zero}
-use Rattle.gpt_table.proofs.Held.{Has, Held, bytes_read, held_run, number_reads, units_read}
+use Rattle.gpt_table.proofs.Held.{Held, bytes_read, held_run, units_read}
+use Rattle.base_fields.proofs.Images.{Has, number_reads}
 
 -- turned twice, an identifier is itself
 guid_twice : (id : List ℕ) → length id ≡ 16 → guid_order (guid_order id) ≡ id

@@ -4,14 +4,13 @@ use Rattle.std.proofs.Common.{◌≤◌, refl, ◌∙◌, sym, ap, arith}
 use Rattle.std.proofs.lemmas.Grind.{common_steps}
 use Rattle.std.proofs.lemmas.List.{get_or_append_left, get_or-append-add, length-append, length-take-le, length_push, take_at, drop_at, drop-drop, drop-replicate, flat_map_more, append_assoc}
 use Rattle.byteorder.specs.Endian.{little_bytes}
-use Rattle.base_fields.specs.Fields.{byte_of, written}
+use Rattle.base_fields.specs.Fields.{byte_of, written, joined}
 use Rattle.base_fields.specs.Numbers.{guid_order}
 use Rattle.base_fields.specs.Crc.{crc32_of}
 use Rattle.gpt_table.proofs.Spans.{bytes_at-is}
-use Rattle.gpt_table.specs.Runs.{joined}
 use Rattle.gpt_table.specs.Gpt.{EntryFits, HasLengths, entry_fields, entries_byte, slot_byte, slot_of, sum_of_entries}
 use Rattle.gpt_table.specs.declared.entry.GptEntry.{GptEntry}
-use Rattle.gpt_table.proofs.Runs.{IsRun, byte_of-start}
+use Rattle.base_fields.proofs.FieldRuns.{IsRun, byte_of-start}
 
 pub length-guid : (id : List ℕ) → length id ≡ 16 → length (guid_order id) ≡ 16
 length-guid (a ∷ b ∷ c ∷ d ∷ e ∷ f ∷ g ∷ h ∷ i ∷ j ∷ k ∷ l ∷ m ∷ n ∷ o ∷ p ∷ []) sixteen = refl

@@ -2,7 +2,6 @@
 pub use Rattle.base_fields.specs.Crc
 pub use Rattle.base_fields.specs.Fields
 pub use Rattle.base_fields.specs.Numbers
-pub mod Runs
 pub mod Span
 pub mod Gpt
 pub mod Reading

@@ -1,8 +1,7 @@
 ghost use Rattle.std.specs.Prelude.{◌≡◌, ℕ, ◌+◌, ◌*◌, ◌^◌, ◌<◌, ◌≤◌, length, slice_index, flat_map};
 ghost use Rattle.byteorder.specs.Endian.{little_bytes};
-ghost use Rattle.base_fields.specs.Fields.{written};
+ghost use Rattle.base_fields.specs.Fields.{written, joined};
 ghost use Rattle.base_fields.specs.Numbers.{guid_order};
-ghost use Rattle.gpt_table.specs.Runs.{joined};
 ghost use Rattle.gpt_table.specs.Gpt.{EntryFits, slot_of, entry_fields, entries_byte};
 
 use base_fields::{guid_bytes, put_u64};

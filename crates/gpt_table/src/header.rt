@@ -1,6 +1,5 @@
 ghost use Rattle.std.specs.Prelude.{◌≡◌, ℕ, ◌<◌, ◌++◌, slice_index, replicate, codes};
-ghost use Rattle.base_fields.specs.Fields.{written};
-ghost use Rattle.gpt_table.specs.Runs.{joined};
+ghost use Rattle.base_fields.specs.Fields.{written, joined};
 ghost use Rattle.gpt_table.specs.Gpt.{header_fields, header_byte};
 
 use crate::entry::put_guid;

@@ -1,4 +1,3 @@
 -- lemmas on fields without gaps, on one slot, and on the whole record
-pub mod Runs
 pub mod SlotReads
 pub mod ReadsBack

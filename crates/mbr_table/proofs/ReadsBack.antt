@@ -2,11 +2,13 @@
 use Rattle.std.specs.Prelude.{◌≡◌, ℕ, zero, suc, ◌+◌, ◌*◌, ◌<◌, [], take, drop}
 use Rattle.std.proofs.Common.{refl, ◌∙◌, arith, lit<}
 use Rattle.byteorder.specs.Endian.{little_bytes}
-use Rattle.mbr_table.specs.Mbr.{entry_of, mbr_fields, joined}
+use Rattle.mbr_table.specs.Mbr.{entry_of, mbr_fields}
 use Rattle.mbr_table.specs.Reading.{HoldsMbr, MbrReadsBack, slot_at}
-use Rattle.mbr_table.proofs.Runs.{byte_of-run, run_passes}
-use Rattle.mbr_table.proofs.SlotReads.{Has, number_reads, part_of, slot_reads}
+use Rattle.base_fields.proofs.FieldRuns.{byte_of-run, run_passes}
+use Rattle.mbr_table.proofs.SlotReads.{slot_reads}
+use Rattle.base_fields.proofs.Images.{Has, number_reads, part_of}
 use Rattle.mbr_table.specs.declared.mbr.MbrSpec.{MbrSpec}
+use Rattle.base_fields.specs.Fields.{joined}
 
 -- such an image has the fields' bytes one after another
 has_bytes : (spec : MbrSpec) (image : ℕ → ℕ) → HoldsMbr image spec → Has image 440 (joined (mbr_fields spec))
@@ -26,7 +28,7 @@ mbr_reads_back spec image fits holds =
     let has : Has image 440 bytes = has_bytes spec image holds in
     record {
       marked = (has 70 (lit< tt), has 71 (lit< tt));
-      signature = number_reads image 440 spec.signature fits.signature (part_of image 440 [] (little_bytes 4 spec.signature) (drop 4 bytes) has);
+      signature = number_reads image 440 4 spec.signature fits.signature (part_of image 440 [] (little_bytes 4 spec.signature) (drop 4 bytes) has);
       slots = below_four (λ (k : ℕ). slot_at image (446 + 16 * k) ≡ entry_of spec k)
           (slot_reads image 0 446 (entry_of spec 0) (fits.entries 0 (lit< tt)) (part_of image 440 (take 6 bytes) (take 16 (drop 6 bytes)) (drop 22 bytes) has))
           (slot_reads image 0 462 (entry_of spec 1) (fits.entries 1 (lit< tt)) (part_of image 440 (take 22 bytes) (take 16 (drop 22 bytes)) (drop 38 bytes) has))

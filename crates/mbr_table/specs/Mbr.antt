@@ -39,11 +39,6 @@ entry_fields at start e =
     ∷ number (at + 12) 4 e.count
     ∷ []
 
--- the bytes of fields one after another
-abbrev pub joined : List Field → List ℕ
-joined [] = []
-joined (f ∷ fs) = f.bytes ++ joined fs
-
 -- 55 AA, which ends a boot record
 abbrev pub mark : Field
 mark = record { at = 510; bytes = 0x55 ∷ 0xAA ∷ [] }

@@ -1,6 +1,6 @@
 ghost use Rattle.std.specs.Prelude.{◌≡◌, ℕ, ◌+◌, ◌<◌, ◌≤◌, All, length, slice_index};
-ghost use Rattle.base_fields.specs.Fields.{byte_of, written};
-ghost use Rattle.mbr_table.specs.Mbr.{HasLast, entry_fields, mbr_fields, joined};
+ghost use Rattle.base_fields.specs.Fields.{byte_of, written, joined};
+ghost use Rattle.mbr_table.specs.Mbr.{HasLast, entry_fields, mbr_fields};
 
 use crate::chs::chs;
 use base_fields::put_u32;

@@ -1,7 +1,6 @@
 use Rattle.std.proofs.Common.{ap, refl, ◌∙◌, ◌≡◌, ◌++◌, List, ℕ, replicate, get_or}
-use Rattle.base_fields.specs.Fields.{written}
-use Rattle.mbr_table.specs.Mbr.{joined}
-use Rattle.mbr_table.proofs.Runs.{run_passes}
+use Rattle.base_fields.specs.Fields.{written, joined}
+use Rattle.base_fields.proofs.FieldRuns.{run_passes}
 use Rattle.extended_chain.specs.Chain.{record_fields}
 use Rattle.extended_chain.proofs.Bytes.{tail_of_fields, zeros_then}
 use Rattle.extended_chain.proofs.chain.record_bytes.Goals as goal

@@ -1,6 +1,6 @@
 use Rattle.std.proofs.Common.{◌≡◌, ℕ, List, replicate, ◌∙◌, sym, arith}
 use Rattle.gpt_table.specs.Gpt.{HasLengths, entry_fields}
-use Rattle.gpt_table.proofs.Runs.{filled, filled_first, filled_none, filled_whole}
+use Rattle.gpt_table.proofs.Filled.{filled, filled_first, filled_none, filled_whole}
 use Rattle.gpt_table.proofs.Slots.{entry_run, length-entry}
 use Rattle.gpt_table.proofs.entry.entry_bytes.Goals as goal
 

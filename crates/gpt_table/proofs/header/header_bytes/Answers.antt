@@ -1,6 +1,6 @@
 use Rattle.std.proofs.Common.{◌≡◌, ℕ, List, length, replicate, ◌∙◌, sym, arith}
 use Rattle.gpt_table.specs.Gpt.{header_fields}
-use Rattle.gpt_table.proofs.Runs.{filled, filled_first, filled_none, filled_whole}
+use Rattle.gpt_table.proofs.Filled.{filled, filled_first, filled_none, filled_whole}
 use Rattle.gpt_table.proofs.Headers.{header_run, length-header}
 use Rattle.gpt_table.proofs.header.header_bytes.Goals as goal
 

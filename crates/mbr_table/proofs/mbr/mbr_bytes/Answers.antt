@@ -1,8 +1,9 @@
 use Rattle.std.proofs.Common.{refl, sym, ◌∙◌, ap, ◌≡◌, get_or, List, ℕ}
 use borrow.Rule.Slice.PartMut.{put_mid}
-use Rattle.mbr_table.specs.Mbr.{mbr_fields, joined}
-use Rattle.mbr_table.proofs.Runs.{byte_of-run, run_passes}
+use Rattle.mbr_table.specs.Mbr.{mbr_fields}
+use Rattle.base_fields.proofs.FieldRuns.{byte_of-run, run_passes}
 use Rattle.mbr_table.proofs.mbr.mbr_bytes.Goals as goal
+use Rattle.base_fields.specs.Fields.{joined}
 
 pub returns : goal.returns
 returns c o h =

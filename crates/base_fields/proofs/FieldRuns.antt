@@ -1,11 +1,10 @@
 -- Fields that stand one after another without a gap, as one list of bytes.
 use Rattle.std.specs.Prelude.{◌≡◌, ℕ, ◌+◌, ◌-◌, ◌<◌, List, [], ◌∷◌, Bool, true, false, ◌&&◌, ◌==◌, length, get_or}
-use Rattle.std.proofs.Common.{◌≤◌, refl, ◌∙◌, sym, arith, inl, inr}
+use Rattle.std.proofs.Common.{◌≤◌, refl, ◌∙◌, sym, ap, arith, inl, inr}
 use Rattle.std.proofs.lemmas.Bool.{cases_lt, eqb-true}
 use Rattle.std.proofs.lemmas.Bool.Decides.{nat_tests}
 use Rattle.std.proofs.lemmas.List.{get_or_append_left, get_or-append_right}
-use Rattle.base_fields.specs.Fields.{Field, byte_of, reaches}
-use Rattle.mbr_table.specs.Mbr.{joined}
+use Rattle.base_fields.specs.Fields.{Field, byte_of, joined, reaches}
 
 -- each field begins where the one before it ends, and the first at this offset
 abbrev pub IsRun : ℕ → List Field → Type 0
@@ -51,6 +50,12 @@ byte_of-run (f ∷ fs) at o run = elim (cases_lt o (length f.bytes)) [
       let moved : at + o ≡ (at + length f.bytes) + (o - length f.bytes) = omega arith in
       rw (missed f at o run.0 past, moved) (byte_of-run fs (at + length f.bytes) (o - length f.bytes) run.1 ∙ sym (get_or-append_right f.bytes (joined fs) (length f.bytes) o 0 refl past))
 ]
+
+-- the same from offset 0 on
+pub byte_of-start : (fs : List Field) (o : ℕ) → IsRun 0 fs → byte_of fs o ≡ get_or (joined fs) o 0
+byte_of-start fs o run =
+    let at : o ≡ 0 + o = omega arith in
+    ap (byte_of fs) at ∙ byte_of-run fs 0 o run
 
 -- before a run there is nothing
 pub byte_of-before_run : (fs : List Field) (at o : ℕ) → IsRun at fs → o < at → byte_of fs o ≡ 0
