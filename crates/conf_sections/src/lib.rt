@@ -1,0 +1,9 @@
+//! What the sections of a configuration say: the values of their keys, or the first place that has
+//! another key or value.
+#![tactic(auto)]
+
+mod conf;
+mod values;
+
+pub use conf::{Conf, FlashSection, HdKeys, Hole, ImageSection, Kind, PartitionSection, PlainKeys};
+pub use conf::{SparseKeys, Vars};
