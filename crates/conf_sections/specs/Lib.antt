@@ -1,3 +1,4 @@
 -- definitions that contracts cite, and those of identifiers
 pub use Rattle.uuid.specs.Text
+pub mod Settings
 pub mod Values

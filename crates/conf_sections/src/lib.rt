@@ -3,7 +3,9 @@
 #![tactic(auto)]
 
 mod conf;
+mod settings;
 mod values;
 
 pub use conf::{Conf, FlashSection, HdKeys, Hole, ImageSection, Kind, PartitionSection, PlainKeys};
 pub use conf::{SparseKeys, Vars};
+pub use settings::{Given, Place, Setting, Value, Word};
