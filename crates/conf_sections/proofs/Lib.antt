@@ -1,2 +1,3 @@
 -- lemmas of the crate
 pub mod Digits
+pub mod Failing

@@ -1,4 +1,5 @@
 -- definitions that contracts cite, and those of identifiers
 pub use Rattle.uuid.specs.Text
+pub mod Checking
 pub mod Settings
 pub mod Values

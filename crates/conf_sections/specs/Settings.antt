@@ -1,11 +1,8 @@
 -- The keys of each section, and which values they may have.
-use Rattle.std.specs.Prelude.{ℕ, ◌+◌, ◌-◌, ◌*◌, ◌^◌, Bool, true, false, ◌&&◌, ◌||◌, nat_lt, List, [], ◌∷◌, reverse, find, Option, Some, None, option_and_then, is_some, Result, Ok, Err, codes, if◌then◌else◌}
+use Rattle.std.specs.Prelude.{ℕ, ◌-◌, ◌*◌, ◌^◌, Bool, true, false, ◌||◌, List, reverse, find, Option, Some, None, option_and_then, is_some, codes, if◌then◌else◌}
 use Rattle.std.specs.Str.{bytes_eq}
 use Rattle.uuid.specs.Text.{parsed}
-use Rattle.conf_sections.specs.declared.settings.Place.{Place}
-use Rattle.conf_sections.specs.declared.settings.Word.{Word}
-use Rattle.conf_sections.specs.declared.settings.Value.{Value}
-use Rattle.conf_sections.specs.declared.settings.Value.TheVariants.{One, Many}
+use Rattle.conf_sections.specs.declared.settings.Value.TheVariants.{One}
 use Rattle.conf_sections.specs.declared.settings.Given.{Given}
 use Rattle.conf_sections.specs.declared.settings.Given.TheVariants as given
 use Rattle.conf_sections.specs.declared.settings.Setting.{Setting}
@@ -13,7 +10,7 @@ use Rattle.conf_sections.specs.declared.settings.Section.{Section}
 use Rattle.conf_sections.specs.declared.settings.Section.TheVariants as section
 use Rattle.conf_sections.specs.declared.settings.Shape.{Shape}
 use Rattle.conf_sections.specs.declared.settings.Shape.TheVariants as shape
-use Rattle.conf_sections.specs.Values.{hole_of, number_between, power_between, sector_of, size_from, table_of, truth_of, type_of}
+use Rattle.conf_sections.specs.Values.{number_between, power_between, sector_of, size_from, table_of, truth_of, type_of}
 
 -- ---- which keys there are, and what their values may be
 

@@ -2,10 +2,12 @@
 //! another key or value.
 #![tactic(auto)]
 
+mod checking;
 mod conf;
 mod settings;
 mod values;
 
+pub use checking::SectionFault;
 pub use conf::{Conf, FlashSection, HdKeys, Hole, ImageSection, Kind, PartitionSection, PlainKeys};
 pub use conf::{SparseKeys, Vars};
 pub use settings::{Given, Place, Setting, Value, Word};

@@ -1,4 +1,4 @@
-use Rattle.std.proofs.Common.{◌∙◌, sym, arith}
+use Rattle.std.proofs.Common.{◌∙◌, arith}
 use Rattle.conf_sections.proofs.Digits.{one_more, small_value_all, small_value_more}
 use Rattle.conf_sections.proofs.values.small_value.Goals as goal
 
