@@ -1,5 +1,6 @@
 -- definitions that contracts cite, and those of identifiers
 pub use Rattle.uuid.specs.Text
 pub mod Checking
+pub mod Sections
 pub mod Settings
 pub mod Values

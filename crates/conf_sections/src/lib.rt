@@ -4,10 +4,12 @@
 
 mod checking;
 mod conf;
+mod sections;
 mod settings;
 mod values;
 
 pub use checking::SectionFault;
 pub use conf::{Conf, FlashSection, HdKeys, Hole, ImageSection, Kind, PartitionSection, PlainKeys};
 pub use conf::{SparseKeys, Vars};
+pub use sections::{Head, read_hd};
 pub use settings::{Given, Place, Setting, Value, Word};

@@ -1,5 +1,5 @@
 //! What the text of a value stands for.
-ghost use Rattle.std.specs.Prelude.{◌≡◌, ◌≤◌, ◌+◌, ◌-◌, ◌^◌, ◌*◌, map, reverse, length, IsTrue, take, drop};
+ghost use Rattle.std.specs.Prelude.{◌≡◌, ◌≤◌, IfSome, ◌+◌, ◌-◌, ◌^◌, ◌*◌, map, reverse, length, IsTrue, take, drop};
 ghost use Rattle.std.specs.Char.{digit_value, is_ascii_digit, is_ascii_hexdigit, to_ascii_lowercase};
 ghost use Rattle.std.specs.List.{list_all, prefix_len};
 ghost use Rattle.conf_sections.specs.Values.{bytes_of, decimal_of, hexadecimal_of, hole_of, is_between, is_enclosed, is_decimal, is_hexadecimal, is_partition_name, is_space, is_word, front_trimmed, end_trimmed, has_needless_zero, number_between, number_of, power_between, sector_of, semicolon_of, size_from, size_of, sizes_of, small_value, table_of, trimmed_size, truth_of, type_of, unit_of};
@@ -141,7 +141,8 @@ pub(crate) fn size(text: &[u8]) -> Option<u64>
 }
 
 pub(crate) fn number_between(text: &[u8], least: u64, most: u64) -> Option<u64>
-    ensures { result ≡ number_between least most text.now }
+    ensures number { result ≡ number_between least most text.now }
+    ensures within { IfSome result (λ n. n ≤ most) }
 {
     match number(text) {
         Some(n) if least <= n && n <= most => Some(n),

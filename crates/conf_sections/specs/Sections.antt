@@ -1,0 +1,93 @@
+-- The keys of each section, from its settings in order: for each key the value of its last setting, or the default.
+use Rattle.std.specs.Prelude.{ℕ, ◌-◌, ◌*◌, ◌^◌, Bool, true, false, List, Option, Some, None, option_and_then, unwrap_or, Result, Ok, Err, codes}
+use Rattle.std.specs.Option.{option_or}
+use Rattle.uuid.specs.Text.{parsed}
+use Rattle.base_fields.specs.declared.spans.TableKind.{TableKind}
+use Rattle.base_fields.specs.declared.spans.TableKind.TheVariants as table
+use Rattle.conf_sections.specs.declared.conf.HdKeys.{HdKeys}
+use Rattle.conf_sections.specs.declared.settings.Place.{Place}
+use Rattle.conf_sections.specs.declared.settings.Word.{Word}
+use Rattle.conf_sections.specs.declared.settings.Setting.{Setting}
+use Rattle.conf_sections.specs.declared.settings.Section.{Section}
+use Rattle.conf_sections.specs.declared.settings.Section.TheVariants as section
+use Rattle.conf_sections.specs.declared.sections.Head.{Head}
+use Rattle.conf_sections.specs.declared.checking.SectionFault.{SectionFault}
+use Rattle.conf_sections.specs.declared.checking.SectionFault.TheVariants.{BadValue}
+use Rattle.conf_sections.specs.Checking.{checked}
+use Rattle.conf_sections.specs.Settings.{last_text}
+use Rattle.conf_sections.specs.Values.{number_between, sector_of, size_of, table_of, truth_of}
+
+-- ---- faults
+
+-- a section that has no name has its fault there
+abbrev pub name_fault : Option Word → Option SectionFault
+name_fault None = None
+name_fault (Some word) = Some (BadValue word.place)
+
+abbrev pub unnamed_fault : Head → Option SectionFault
+unnamed_fault head = name_fault head.name
+
+abbrev pub fault_in : Result ℕ SectionFault → Option SectionFault
+fault_in (Ok held) = None
+fault_in (Err fault) = Some fault
+
+-- the fault of the head comes first, then that of the first setting that has one
+abbrev pub section_fault : Option SectionFault → Section → List Setting → Option SectionFault
+section_fault head whose settings = option_or head (fault_in (checked whose settings))
+
+abbrev pub answer : {Keys : Type 0} → Option SectionFault → Keys → Result Keys SectionFault
+answer None keys = Ok keys
+answer (Some fault) keys = Err fault
+
+-- ---- the last value of a key
+
+abbrev pub size_at : List ℕ → List Setting → Option ℕ
+size_at key settings = option_and_then size_of (last_text key settings)
+
+abbrev pub number_at : ℕ → ℕ → List ℕ → List Setting → Option ℕ
+number_at least most key settings = option_and_then (number_between least most) (last_text key settings)
+
+abbrev pub truth_at : List ℕ → List Setting → Option Bool
+truth_at key settings = option_and_then truth_of (last_text key settings)
+
+abbrev pub identifier_at : List ℕ → List Setting → Option (List ℕ)
+identifier_at key settings = option_and_then parsed (last_text key settings)
+
+-- ---- hdimage
+
+abbrev pub table_at : List Setting → Option TableKind
+table_at settings = option_and_then table_of (last_text (codes "partition-table-type") settings)
+
+-- sectors of 4096 bytes go with a GUID partition table or none
+abbrev pub goes_with_wide : Option TableKind → Bool
+goes_with_wide (Some table.Gpt) = true
+goes_with_wide (Some table.Bare) = true
+goes_with_wide _ = false
+
+abbrev pub is_wide : List Setting → Bool
+is_wide settings = goes_with_wide (table_at settings)
+
+abbrev pub sector_at : Bool → List Setting → Option ℕ
+sector_at wide settings = option_and_then (sector_of wide) (last_text (codes "sector-size") settings)
+
+abbrev pub sector_size_of : List Setting → ℕ
+sector_size_of settings = unwrap_or (sector_at (is_wide settings) settings) 512
+
+abbrev pub hd_section : List Setting → Section
+hd_section settings = section.Hd (is_wide settings) (sector_size_of settings)
+
+abbrev pub hd_values : List Setting → HdKeys
+hd_values settings = record {
+  align = size_at (codes "align") settings;
+  partition_table_type = unwrap_or (table_at settings) table.Mbr;
+  extended_partition = unwrap_or (number_at 0 4 (codes "extended-partition") settings) 0;
+  disk_signature = unwrap_or (number_at 0 (2 ^ 32 - 1) (codes "disk-signature") settings) 0;
+  disk_uuid = identifier_at (codes "disk-uuid") settings;
+  gpt_location = unwrap_or (size_at (codes "gpt-location") settings) (2 * sector_size_of settings);
+  gpt_no_backup = unwrap_or (truth_at (codes "gpt-no-backup") settings) false;
+  fill = unwrap_or (truth_at (codes "fill") settings) false;
+  sector_size = sector_size_of settings;
+}
+
+abbrev pub hd_of : Head → List Setting → Result HdKeys SectionFault
+hd_of head settings = answer (section_fault (unnamed_fault head) (hd_section settings) settings) (hd_values settings)
