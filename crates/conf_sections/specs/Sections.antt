@@ -1,10 +1,13 @@
 -- The keys of each section, from its settings in order: for each key the value of its last setting, or the default.
-use Rattle.std.specs.Prelude.{ℕ, ◌-◌, ◌*◌, ◌^◌, Bool, true, false, List, Option, Some, None, option_and_then, unwrap_or, Result, Ok, Err, codes}
+use Rattle.std.specs.Prelude.{ℕ, ◌-◌, ◌*◌, ◌^◌, Bool, true, false, List, Option, Some, None, option_and_then, unwrap_or, Result, Ok, Err, codes, ◌≡◌, ◌≢◌, MatchResult, is_none, if◌then◌else◌}
 use Rattle.std.specs.Option.{option_or}
 use Rattle.uuid.specs.Text.{parsed}
 use Rattle.base_fields.specs.declared.spans.TableKind.{TableKind}
 use Rattle.base_fields.specs.declared.spans.TableKind.TheVariants as table
+use Rattle.conf_sections.specs.declared.conf.ConfigKeys.{ConfigKeys}
 use Rattle.conf_sections.specs.declared.conf.HdKeys.{HdKeys}
+use Rattle.conf_sections.specs.declared.conf.PlainKeys.{PlainKeys}
+use Rattle.conf_sections.specs.declared.conf.SparseKeys.{SparseKeys}
 use Rattle.conf_sections.specs.declared.settings.Place.{Place}
 use Rattle.conf_sections.specs.declared.settings.Word.{Word}
 use Rattle.conf_sections.specs.declared.settings.Setting.{Setting}
@@ -12,10 +15,10 @@ use Rattle.conf_sections.specs.declared.settings.Section.{Section}
 use Rattle.conf_sections.specs.declared.settings.Section.TheVariants as section
 use Rattle.conf_sections.specs.declared.sections.Head.{Head}
 use Rattle.conf_sections.specs.declared.checking.SectionFault.{SectionFault}
-use Rattle.conf_sections.specs.declared.checking.SectionFault.TheVariants.{BadValue}
+use Rattle.conf_sections.specs.declared.checking.SectionFault.TheVariants.{BadValue, NoMemory}
 use Rattle.conf_sections.specs.Checking.{checked}
-use Rattle.conf_sections.specs.Settings.{last_text}
-use Rattle.conf_sections.specs.Values.{number_between, sector_of, size_of, table_of, truth_of}
+use Rattle.conf_sections.specs.Settings.{last_of, last_text}
+use Rattle.conf_sections.specs.Values.{number_between, power_between, sector_of, size_of, table_of, truth_of}
 
 -- ---- faults
 
@@ -91,3 +94,46 @@ hd_values settings = record {
 
 abbrev pub hd_of : Head → List Setting → Result HdKeys SectionFault
 hd_of head settings = answer (section_fault (unnamed_fault head) (hd_section settings) settings) (hd_values settings)
+
+-- ---- sections with texts
+
+-- what was got is what was wanted, save where memory was refused
+abbrev pub Answers : {Keys : Type 0} → Result Keys SectionFault → Result Keys SectionFault → Type 0
+Answers wanted got = MatchResult got (λ keys. wanted ≡ Ok keys) (λ fault. fault ≢ NoMemory → wanted ≡ Err fault)
+
+abbrev pub config_values : List Setting → ConfigKeys
+config_values settings = record {
+  inputpath = last_text (codes "inputpath") settings;
+  outputpath = last_text (codes "outputpath") settings;
+}
+
+abbrev pub config_of : Head → List Setting → Result ConfigKeys SectionFault
+config_of head settings = answer (section_fault (unnamed_fault head) section.Config settings) (config_values settings)
+
+abbrev pub plain_values : List Setting → PlainKeys
+plain_values settings = record { name = last_text (codes "name") settings }
+
+abbrev pub plain_of : Head → List Setting → Result PlainKeys SectionFault
+plain_of head settings = answer (section_fault (unnamed_fault head) section.Plain settings) (plain_values settings)
+
+-- ---- android-sparse
+
+abbrev pub is_lacking : List ℕ → List Setting → Bool
+is_lacking key settings = is_none (last_of key settings)
+
+-- a lacking image is a fault at the section's word
+abbrev pub sparse_head_fault : Head → List Setting → Option SectionFault
+sparse_head_fault head settings =
+    if is_lacking (codes "image") settings then Some (BadValue head.word) else unnamed_fault head
+
+abbrev pub block_size_at : List Setting → Option ℕ
+block_size_at settings = option_and_then (power_between 4096 1048576) (last_text (codes "block-size") settings)
+
+abbrev pub sparse_values : List Setting → SparseKeys
+sparse_values settings = record {
+  image = last_text (codes "image") settings;
+  block_size = unwrap_or (block_size_at settings) 4096;
+}
+
+abbrev pub sparse_of : Head → List Setting → Result SparseKeys SectionFault
+sparse_of head settings = answer (section_fault (sparse_head_fault head settings) section.Sparse settings) (sparse_values settings)

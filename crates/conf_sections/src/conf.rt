@@ -1,5 +1,3 @@
-ghost use Rattle.std.specs.Prelude.{ℕ};
-
 use base_fields::{List, Name, Pair, TableKind};
 
 /// The variables of a configuration. The first pair with a name counts.
@@ -67,6 +65,21 @@ pub struct ImageSection {
     pub sparse: SparseKeys,
     pub plain: PlainKeys,
     pub parts: List<PartitionSection>,
+}
+
+/// The paths of `config`; None where the section hasn't that key.
+#[derive(Debug, Drop)]
+pub struct ConfigKeys {
+    pub inputpath: Option<Name>,
+    pub outputpath: Option<Name>,
+}
+
+/// The keys of an image itself.
+#[derive(Debug, Drop)]
+pub struct ImageKeys {
+    /// In bytes.
+    pub size: Option<u64>,
+    pub flashtype: Option<Name>,
 }
 
 /// The keys of `hdimage`. Places and sizes are in bytes.

@@ -9,7 +9,7 @@ mod settings;
 mod values;
 
 pub use checking::SectionFault;
-pub use conf::{Conf, FlashSection, HdKeys, Hole, ImageSection, Kind, PartitionSection, PlainKeys};
-pub use conf::{SparseKeys, Vars};
-pub use sections::{Head, read_hd};
+pub use conf::{Conf, ConfigKeys, FlashSection, HdKeys, Hole, ImageSection, Kind, PartitionSection, PlainKeys};
+pub use conf::{ImageKeys, SparseKeys, Vars};
+pub use sections::{Head, check_device, read_config, read_hd, read_plain, read_sparse};
 pub use settings::{Given, Place, Setting, Value, Word};

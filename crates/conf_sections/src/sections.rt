@@ -1,13 +1,14 @@
 //! The keys of each section, from its settings in order.
-ghost use Rattle.std.specs.Prelude.{◌≡◌, ◌≤◌, IfOk, IfSome, option_copied};
-ghost use Rattle.std.specs.Option.{option_or};
-ghost use Rattle.conf_sections.specs.Sections.{hd_of, hd_section, hd_values, identifier_at, is_wide, number_at, section_fault, sector_at, size_at, table_at, truth_at, unnamed_fault};
+ghost use Rattle.std.specs.Prelude.{◌≡◌, IfOk, MatchResult};
+ghost use Rattle.conf_sections.specs.Settings.{last_text};
+ghost use Rattle.conf_sections.specs.Sections.{Answers, block_size_at, config_of, config_values, hd_of, hd_section, hd_values, identifier_at, is_wide, number_at, plain_of, plain_values, section_fault, sector_at, size_at, sparse_head_fault, sparse_of, sparse_values, table_at, truth_at, unnamed_fault};
 
 use crate::checking::{SectionFault, check};
-use crate::conf::HdKeys;
-use crate::settings::{Place, Section, Setting, Word, last_text};
+use crate::conf::{ConfigKeys, HdKeys, PlainKeys, SparseKeys};
+use crate::settings::{Place, Section, Setting, Word, last, last_text};
 use crate::values;
-use base_fields::TableKind;
+use base_fields::{Name, NoMemory, TableKind};
+use std::alloc::Global;
 
 /// The word of a section and its name, where it has one.
 #[derive(Debug, Drop)]
@@ -127,5 +128,125 @@ pub fn read_hd(head: &Head, settings: &[Setting]) -> Result<HdKeys, SectionFault
     match section_fault(head.unnamed_fault(), hd_section(settings), settings) {
         Some(fault) => Err(fault),
         None => Ok(hd_values(settings)),
+    }
+}
+
+// ---- sections with texts
+
+// The values, or want of memory.
+fn kept<Keys>(values: Result<Keys, NoMemory>) -> Result<Keys, SectionFault>
+    ensures { MatchResult values (λ keys. result ≡ Ok keys) (λ _. result ≡ Err SectionFault.NoMemory) }
+{
+    match values {
+        Ok(keys) => Ok(keys),
+        Err(NoMemory) => Err(SectionFault::NoMemory),
+    }
+}
+
+fn name_at(alloc: Global, settings: &[Setting], key: &str) -> Result<Option<Name>, NoMemory>
+    ensures { IfOk result (λ name. name ≡ last_text key.now settings.now) }
+{
+    match last_text(settings, key) {
+        Some(text) => Ok(Some(Name::of(alloc, text)?)),
+        None => Ok(None),
+    }
+}
+
+// ---- config
+
+fn config_values(alloc: Global, settings: &[Setting]) -> Result<ConfigKeys, NoMemory>
+    ensures { IfOk result (λ keys. keys ≡ config_values settings.now) }
+{
+    Ok(ConfigKeys {
+        inputpath: name_at(alloc, settings, "inputpath")?,
+        outputpath: name_at(alloc, settings, "outputpath")?,
+    })
+}
+
+/// The paths of a section `config`, or its first fault in order. Takes memory.
+pub fn read_config(
+    alloc: Global,
+    head: &Head,
+    settings: &[Setting],
+) -> Result<ConfigKeys, SectionFault>
+    ensures { Answers (config_of head.now settings.now) result }
+{
+    match section_fault(head.unnamed_fault(), Section::Config, settings) {
+        Some(fault) => Err(fault),
+        None => kept(config_values(alloc, settings)),
+    }
+}
+
+// ---- file
+
+fn plain_values(alloc: Global, settings: &[Setting]) -> Result<PlainKeys, NoMemory>
+    ensures { IfOk result (λ keys. keys ≡ plain_values settings.now) }
+{
+    Ok(PlainKeys {
+        name: name_at(alloc, settings, "name")?,
+    })
+}
+
+/// The keys of a section `file`, or its first fault in order. Takes memory.
+pub fn read_plain(
+    alloc: Global,
+    head: &Head,
+    settings: &[Setting],
+) -> Result<PlainKeys, SectionFault>
+    ensures { Answers (plain_of head.now settings.now) result }
+{
+    match section_fault(head.unnamed_fault(), Section::Plain, settings) {
+        Some(fault) => Err(fault),
+        None => kept(plain_values(alloc, settings)),
+    }
+}
+
+// ---- the kind flash of an image
+
+/// The first fault in order of a kind `flash` in an image, which has neither a name nor keys.
+pub fn check_device(head: &Head, settings: &[Setting]) -> Option<SectionFault>
+    ensures { result ≡ section_fault (unnamed_fault head.now) Section.Device settings.now }
+{
+    section_fault(head.unnamed_fault(), Section::Device, settings)
+}
+
+// ---- android-sparse
+
+fn sparse_head_fault(head: &Head, settings: &[Setting]) -> Option<SectionFault>
+    ensures { result ≡ sparse_head_fault head.now settings.now }
+{
+    if last(settings, "image").is_none() {
+        return Some(SectionFault::BadValue { place: head.word });
+    }
+    head.unnamed_fault()
+}
+
+fn block_size_at(settings: &[Setting]) -> Option<u32>
+    ensures { result ≡ block_size_at settings.now }
+{
+    values::power_between(last_text(settings, "block-size")?.as_bytes(), 4096, 1_048_576)
+}
+
+fn sparse_values(alloc: Global, settings: &[Setting]) -> Result<SparseKeys, NoMemory>
+    ensures { IfOk result (λ keys. keys ≡ sparse_values settings.now) }
+{
+    Ok(SparseKeys {
+        image: name_at(alloc, settings, "image")?,
+        block_size: block_size_at(settings).unwrap_or(4096),
+    })
+}
+
+/// The keys of a section `android-sparse`, or its first fault in order, where a lacking `image` stands
+/// first, at the section's word. Takes memory.
+pub fn read_sparse(
+    alloc: Global,
+    head: &Head,
+    settings: &[Setting],
+) -> Result<SparseKeys, SectionFault>
+    ensures { Answers (sparse_of head.now settings.now) result }
+{
+    match section_fault(sparse_head_fault(head, settings), Section::Sparse, settings) {
+        Some(fault) => Err(fault),
+        None => kept(sparse_values(alloc, settings)),
     }
 }
