@@ -1,11 +1,13 @@
 -- The keys of each section, from its settings in order: for each key the value of its last setting, or the default.
-use Rattle.std.specs.Prelude.{ℕ, ◌-◌, ◌*◌, ◌^◌, Bool, true, false, List, Option, Some, None, option_and_then, unwrap_or, Result, Ok, Err, codes, ◌≡◌, ◌≢◌, MatchResult, is_none, if◌then◌else◌}
+use Rattle.std.specs.Prelude.{ℕ, ◌-◌, ◌*◌, ◌^◌, Bool, true, false, ◌||◌, ◌==◌, nat_lt, List, [], length, Option, Some, None, option_and_then, unwrap_or, Result, Ok, Err, codes, ◌≡◌, ◌≢◌, MatchResult, is_none, if◌then◌else◌}
 use Rattle.std.specs.Option.{option_or}
 use Rattle.uuid.specs.Text.{parsed}
 use Rattle.base_fields.specs.declared.spans.TableKind.{TableKind}
 use Rattle.base_fields.specs.declared.spans.TableKind.TheVariants as table
 use Rattle.conf_sections.specs.declared.conf.ConfigKeys.{ConfigKeys}
+use Rattle.conf_sections.specs.declared.conf.FlashSection.{FlashSection}
 use Rattle.conf_sections.specs.declared.conf.HdKeys.{HdKeys}
+use Rattle.conf_sections.specs.declared.conf.ImageKeys.{ImageKeys}
 use Rattle.conf_sections.specs.declared.conf.PlainKeys.{PlainKeys}
 use Rattle.conf_sections.specs.declared.conf.SparseKeys.{SparseKeys}
 use Rattle.conf_sections.specs.declared.settings.Place.{Place}
@@ -18,7 +20,7 @@ use Rattle.conf_sections.specs.declared.checking.SectionFault.{SectionFault}
 use Rattle.conf_sections.specs.declared.checking.SectionFault.TheVariants.{BadValue, NoMemory}
 use Rattle.conf_sections.specs.Checking.{checked}
 use Rattle.conf_sections.specs.Settings.{last_of, last_text}
-use Rattle.conf_sections.specs.Values.{number_between, power_between, sector_of, size_of, table_of, truth_of}
+use Rattle.conf_sections.specs.Values.{number_between, power_between, sector_of, size_from, size_of, table_of, truth_of}
 
 -- ---- faults
 
@@ -29,6 +31,21 @@ name_fault (Some word) = Some (BadValue word.place)
 
 abbrev pub unnamed_fault : Head → Option SectionFault
 unnamed_fault head = name_fault head.name
+
+-- a section that has to have a name, of one character or more
+abbrev pub name_lacks : Place → Option Word → Option SectionFault
+name_lacks word None = Some (BadValue word)
+name_lacks word (Some name) = if length name.text == 0 then Some (BadValue name.place) else None
+
+abbrev pub named_fault : Head → Option SectionFault
+named_fault head = name_lacks head.word head.name
+
+abbrev pub word_text : Option Word → List ℕ
+word_text None = []
+word_text (Some word) = word.text
+
+abbrev pub name_text : Head → List ℕ
+name_text head = word_text head.name
 
 abbrev pub fault_in : Result ℕ SectionFault → Option SectionFault
 fault_in (Ok held) = None
@@ -137,3 +154,49 @@ sparse_values settings = record {
 
 abbrev pub sparse_of : Head → List Setting → Result SparseKeys SectionFault
 sparse_of head settings = answer (section_fault (sparse_head_fault head settings) section.Sparse settings) (sparse_values settings)
+
+-- ---- flash at the top
+
+abbrev pub pebsize_at : List Setting → Option ℕ
+pebsize_at settings = option_and_then (size_from 1) (last_text (codes "pebsize") settings)
+
+abbrev pub numpebs_at : List Setting → Option ℕ
+numpebs_at settings = option_and_then (number_between 1 (2 ^ 64 - 1)) (last_text (codes "numpebs") settings)
+
+-- a device of more than 2^43 bytes, where both its numbers are valid
+abbrev pub is_past : ℕ → ℕ → Bool
+is_past size count = nat_lt (2 ^ 43) (size * count)
+
+abbrev pub is_product_past : Option ℕ → Option ℕ → Bool
+is_product_past (Some size) (Some count) = is_past size count
+is_product_past _ _ = false
+
+abbrev pub is_too_large : List Setting → Bool
+is_too_large settings = is_product_past (pebsize_at settings) (numpebs_at settings)
+
+abbrev pub lacks_key : List Setting → Bool
+lacks_key settings = is_lacking (codes "pebsize") settings || is_lacking (codes "numpebs") settings
+
+-- what is lacking and what is too large is a fault at the section's word
+abbrev pub flash_head_fault : Head → List Setting → Option SectionFault
+flash_head_fault head settings =
+    if lacks_key settings || is_too_large settings then Some (BadValue head.word) else named_fault head
+
+-- both numbers are there where the section has no fault
+abbrev pub flash_values : Head → List Setting → FlashSection
+flash_values head settings = record {
+  name = name_text head;
+  pebsize = unwrap_or (pebsize_at settings) 0;
+  numpebs = unwrap_or (numpebs_at settings) 0;
+}
+
+abbrev pub flash_of : Head → List Setting → Result FlashSection SectionFault
+flash_of head settings = answer (section_fault (flash_head_fault head settings) section.Flash settings) (flash_values head settings)
+
+-- ---- image
+
+abbrev pub image_values : List Setting → ImageKeys
+image_values settings = record {
+  size = size_at (codes "size") settings;
+  flashtype = last_text (codes "flashtype") settings;
+}

@@ -111,8 +111,8 @@ fn shaped_step(shape: Shape, held: usize, given: &Given) -> Result<usize, Sectio
 }
 
 impl Setting {
-    // How many holes there are behind this setting, or its fault.
-    fn step(&self, section: Section, held: usize) -> Result<usize, SectionFault>
+    /// How many holes there are behind this setting, or its fault.
+    pub(crate) fn step(&self, section: Section, held: usize) -> Result<usize, SectionFault>
         ensures { result ≡ step_of section held self.now }
     {
         let place = self.key.place;

@@ -11,5 +11,6 @@ mod values;
 pub use checking::SectionFault;
 pub use conf::{Conf, ConfigKeys, FlashSection, HdKeys, Hole, ImageSection, Kind, PartitionSection, PlainKeys};
 pub use conf::{ImageKeys, SparseKeys, Vars};
-pub use sections::{Head, check_device, read_config, read_hd, read_plain, read_sparse};
-pub use settings::{Given, Place, Setting, Value, Word};
+pub use sections::{Head, check_device, image_head_fault, image_keys, item_fault};
+pub use sections::{read_config, read_flash, read_hd, read_plain, read_sparse};
+pub use settings::{Given, Place, Section, Setting, Value, Word};

@@ -1,12 +1,13 @@
 //! The keys of each section, from its settings in order.
 ghost use Rattle.std.specs.Prelude.{◌≡◌, IfOk, MatchResult};
+ghost use Rattle.conf_sections.specs.Checking.{step_of};
 ghost use Rattle.conf_sections.specs.Settings.{last_text};
-ghost use Rattle.conf_sections.specs.Sections.{Answers, block_size_at, config_of, config_values, hd_of, hd_section, hd_values, identifier_at, is_wide, number_at, plain_of, plain_values, section_fault, sector_at, size_at, sparse_head_fault, sparse_of, sparse_values, table_at, truth_at, unnamed_fault};
+ghost use Rattle.conf_sections.specs.Sections.{Answers, fault_in, flash_head_fault, flash_of, flash_values, image_values, is_past, is_too_large, lacks_key, name_text, named_fault, numpebs_at, pebsize_at, block_size_at, config_of, config_values, hd_of, hd_section, hd_values, identifier_at, is_wide, number_at, plain_of, plain_values, section_fault, sector_at, size_at, sparse_head_fault, sparse_of, sparse_values, table_at, truth_at, unnamed_fault};
 
 use crate::checking::{SectionFault, check};
-use crate::conf::{ConfigKeys, HdKeys, PlainKeys, SparseKeys};
+use crate::conf::{ConfigKeys, FlashSection, HdKeys, ImageKeys, PlainKeys, SparseKeys};
 use crate::settings::{Place, Section, Setting, Word, last, last_text};
-use crate::values;
+use crate::values::{self, MOST_SIZE};
 use base_fields::{Name, NoMemory, TableKind};
 use std::alloc::Global;
 
@@ -18,6 +19,29 @@ pub struct Head {
 }
 
 impl Head {
+    // The fault of a section that has to have a name, of one character or more.
+    fn named_fault(&self) -> Option<SectionFault>
+        ensures { result ≡ named_fault self.now }
+    {
+        match &self.name {
+            Some(name) if name.text.text().is_empty() => {
+                Some(SectionFault::BadValue { place: name.place })
+            }
+            Some(_) => None,
+            None => Some(SectionFault::BadValue { place: self.word }),
+        }
+    }
+
+    // The text of the name.
+    pub(crate) fn text(&self) -> &str
+        ensures { result.now ≡ name_text self.now }
+    {
+        match &self.name {
+            Some(name) => name.text.text(),
+            None => "",
+        }
+    }
+
     // The fault of a section that has no name.
     fn unnamed_fault(&self) -> Option<SectionFault>
         ensures { result ≡ unnamed_fault self.now }
@@ -249,4 +273,111 @@ pub fn read_sparse(
         Some(fault) => Err(fault),
         None => kept(sparse_values(alloc, settings)),
     }
+}
+
+// ---- flash at the top
+
+fn pebsize_at(settings: &[Setting]) -> Option<u64>
+    ensures { result ≡ pebsize_at settings.now }
+{
+    values::size_from(last_text(settings, "pebsize")?.as_bytes(), 1)
+}
+
+fn numpebs_at(settings: &[Setting]) -> Option<u64>
+    ensures { result ≡ numpebs_at settings.now }
+{
+    values::number_between(last_text(settings, "numpebs")?.as_bytes(), 1, u64::MAX)
+}
+
+// Whether both numbers are valid and the device has more than 2^43 bytes.
+fn is_too_large(settings: &[Setting]) -> bool
+    ensures { result ≡ is_too_large settings.now }
+{
+    match (pebsize_at(settings), numpebs_at(settings)) {
+        (Some(size), Some(count)) => is_past(size, count),
+        _ => false,
+    }
+}
+
+fn is_past(size: u64, count: u64) -> bool
+    ensures { result ≡ is_past size count }
+{
+    match size.checked_mul(count) {
+        Some(bytes) => bytes > MOST_SIZE,
+        None => true,
+    }
+}
+
+fn flash_head_fault(head: &Head, settings: &[Setting]) -> Option<SectionFault>
+    ensures { result ≡ flash_head_fault head.now settings.now }
+{
+    if lacks_key(settings) || is_too_large(settings) {
+        return Some(SectionFault::BadValue { place: head.word });
+    }
+    head.named_fault()
+}
+
+fn lacks_key(settings: &[Setting]) -> bool
+    ensures { result ≡ lacks_key settings.now }
+{
+    last(settings, "pebsize").is_none() || last(settings, "numpebs").is_none()
+}
+
+fn flash_values(
+    alloc: Global,
+    head: &Head,
+    settings: &[Setting],
+) -> Result<FlashSection, NoMemory>
+    ensures { IfOk result (λ keys. keys ≡ flash_values head.now settings.now) }
+{
+    Ok(FlashSection {
+        name: Name::of(alloc, head.text())?,
+        pebsize: pebsize_at(settings).unwrap_or(0),
+        numpebs: numpebs_at(settings).unwrap_or(0),
+    })
+}
+
+/// The keys of a section `flash` at the top, or its first fault in order. At the section's word stand
+/// those of a lacking name or key and of a device of more than 2^43 bytes. Takes memory.
+pub fn read_flash(
+    alloc: Global,
+    head: &Head,
+    settings: &[Setting],
+) -> Result<FlashSection, SectionFault>
+    ensures { Answers (flash_of head.now settings.now) result }
+{
+    match section_fault(flash_head_fault(head, settings), Section::Flash, settings) {
+        Some(fault) => Err(fault),
+        None => kept(flash_values(alloc, head, settings)),
+    }
+}
+
+// ---- image
+
+/// The fault of the head of an image, which has to have a name.
+pub fn image_head_fault(head: &Head) -> Option<SectionFault>
+    ensures { result ≡ named_fault head.now }
+{
+    head.named_fault()
+}
+
+/// The fault of one item of an image that is no list of holes. Where the image has a kind, the section
+/// is `Section::Image`, else `Section::Ready`; a section inside has no fault here.
+pub fn item_fault(section: Section, item: &Setting) -> Option<SectionFault>
+    ensures { result ≡ fault_in (step_of section 0 item.now) }
+{
+    match item.step(section, 0) {
+        Ok(_) => None,
+        Err(fault) => Some(fault),
+    }
+}
+
+/// The keys of an image itself, whose items have no fault. Takes memory.
+pub fn image_keys(alloc: Global, settings: &[Setting]) -> Result<ImageKeys, NoMemory>
+    ensures { IfOk result (λ keys. keys ≡ image_values settings.now) }
+{
+    Ok(ImageKeys {
+        size: size_at(settings, "size"),
+        flashtype: name_at(alloc, settings, "flashtype")?,
+    })
 }

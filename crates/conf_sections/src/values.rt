@@ -10,7 +10,7 @@ use base_fields::TableKind;
 use uuid::Uuid;
 
 /// The greatest size of a text, in bytes.
-const MOST_SIZE: u64 = 1 << 43;
+pub(crate) const MOST_SIZE: u64 = 1 << 43;
 
 // 0FC63DAF-8483-4772-8E79-3D69D8477DE4, C12A7328-F81F-11D2-BA4B-00A0C93EC93B and
 // 0657FD6D-A4AB-43C4-84E5-0933C84B4F4F.
