@@ -4,6 +4,7 @@
 
 mod checking;
 mod conf;
+mod partitions;
 mod sections;
 mod settings;
 mod values;
@@ -11,6 +12,7 @@ mod values;
 pub use checking::SectionFault;
 pub use conf::{Conf, ConfigKeys, FlashSection, HdKeys, Hole, ImageSection, Kind, PartitionSection, PlainKeys};
 pub use conf::{ImageKeys, SparseKeys, Vars};
+pub use partitions::read_partition;
 pub use sections::{Head, check_device, image_head_fault, image_keys, item_fault};
 pub use sections::{read_config, read_flash, read_hd, read_plain, read_sparse};
 pub use settings::{Given, Place, Section, Setting, Value, Word};

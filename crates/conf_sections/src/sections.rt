@@ -54,7 +54,7 @@ impl Head {
 }
 
 // The fault of the section's head, else the first of its settings.
-fn section_fault(
+pub(crate) fn section_fault(
     head: Option<SectionFault>,
     section: Section,
     settings: &[Setting],
@@ -68,13 +68,13 @@ fn section_fault(
     }
 }
 
-fn size_at(settings: &[Setting], key: &str) -> Option<u64>
+pub(crate) fn size_at(settings: &[Setting], key: &str) -> Option<u64>
     ensures { result ≡ size_at key.now settings.now }
 {
     values::size(last_text(settings, key)?.as_bytes())
 }
 
-fn number_at(settings: &[Setting], key: &str, least: u32, most: u32) -> Option<u32>
+pub(crate) fn number_at(settings: &[Setting], key: &str, least: u32, most: u32) -> Option<u32>
     ensures { result ≡ number_at least most key.now settings.now }
 {
     let text = last_text(settings, key)?.as_bytes();
@@ -82,13 +82,13 @@ fn number_at(settings: &[Setting], key: &str, least: u32, most: u32) -> Option<u
     Some(number as u32)
 }
 
-fn truth_at(settings: &[Setting], key: &str) -> Option<bool>
+pub(crate) fn truth_at(settings: &[Setting], key: &str) -> Option<bool>
     ensures { result ≡ truth_at key.now settings.now }
 {
     values::truth(last_text(settings, key)?)
 }
 
-fn identifier_at(settings: &[Setting], key: &str) -> Option<[u8; 16]>
+pub(crate) fn identifier_at(settings: &[Setting], key: &str) -> Option<[u8; 16]>
     ensures { result ≡ identifier_at key.now settings.now }
 {
     values::identifier(last_text(settings, key)?)
@@ -158,7 +158,7 @@ pub fn read_hd(head: &Head, settings: &[Setting]) -> Result<HdKeys, SectionFault
 // ---- sections with texts
 
 // The values, or want of memory.
-fn kept<Keys>(values: Result<Keys, NoMemory>) -> Result<Keys, SectionFault>
+pub(crate) fn kept<Keys>(values: Result<Keys, NoMemory>) -> Result<Keys, SectionFault>
     ensures { MatchResult values (λ keys. result ≡ Ok keys) (λ _. result ≡ Err SectionFault.NoMemory) }
 {
     match values {
@@ -167,7 +167,7 @@ fn kept<Keys>(values: Result<Keys, NoMemory>) -> Result<Keys, SectionFault>
     }
 }
 
-fn name_at(alloc: Global, settings: &[Setting], key: &str) -> Result<Option<Name>, NoMemory>
+pub(crate) fn name_at(alloc: Global, settings: &[Setting], key: &str) -> Result<Option<Name>, NoMemory>
     ensures { IfOk result (λ name. name ≡ last_text key.now settings.now) }
 {
     match last_text(settings, key) {
