@@ -5,3 +5,4 @@ pub mod Partitions
 pub mod Sections
 pub mod Settings
 pub mod Values
+pub mod Within

@@ -48,9 +48,9 @@ holes_of settings = fold with_setting [] settings
 abbrev pub partition_values : Head → List Setting → PartitionSection
 partition_values head settings = record {
   name = name_text head;
-  offset = size_at (codes "offset") settings;
-  size = size_at (codes "size") settings;
-  align = size_at (codes "align") settings;
+  offset = size_at 0 (codes "offset") settings;
+  size = size_at 0 (codes "size") settings;
+  align = size_at 1 (codes "align") settings;
   image = last_text (codes "image") settings;
   fill = unwrap_or (truth_at (codes "fill") settings) false;
   autoresize = unwrap_or (truth_at (codes "autoresize") settings) false;

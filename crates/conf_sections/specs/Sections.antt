@@ -20,7 +20,7 @@ use Rattle.conf_sections.specs.declared.checking.SectionFault.{SectionFault}
 use Rattle.conf_sections.specs.declared.checking.SectionFault.TheVariants.{BadValue, NoMemory}
 use Rattle.conf_sections.specs.Checking.{checked}
 use Rattle.conf_sections.specs.Settings.{last_of, last_text}
-use Rattle.conf_sections.specs.Values.{number_between, power_between, sector_of, size_from, size_of, table_of, truth_of}
+use Rattle.conf_sections.specs.Values.{number_between, power_between, sector_of, size_from, table_of, truth_of}
 
 -- ---- faults
 
@@ -61,8 +61,8 @@ answer (Some fault) keys = Err fault
 
 -- ---- the last value of a key
 
-abbrev pub size_at : List ℕ → List Setting → Option ℕ
-size_at key settings = option_and_then size_of (last_text key settings)
+abbrev pub size_at : ℕ → List ℕ → List Setting → Option ℕ
+size_at least key settings = option_and_then (size_from least) (last_text key settings)
 
 abbrev pub number_at : ℕ → ℕ → List ℕ → List Setting → Option ℕ
 number_at least most key settings = option_and_then (number_between least most) (last_text key settings)
@@ -98,12 +98,12 @@ hd_section settings = section.Hd (is_wide settings) (sector_size_of settings)
 
 abbrev pub hd_values : List Setting → HdKeys
 hd_values settings = record {
-  align = size_at (codes "align") settings;
+  align = size_at 1 (codes "align") settings;
   partition_table_type = unwrap_or (table_at settings) table.Mbr;
   extended_partition = unwrap_or (number_at 0 4 (codes "extended-partition") settings) 0;
   disk_signature = unwrap_or (number_at 0 (2 ^ 32 - 1) (codes "disk-signature") settings) 0;
   disk_uuid = identifier_at (codes "disk-uuid") settings;
-  gpt_location = unwrap_or (size_at (codes "gpt-location") settings) (2 * sector_size_of settings);
+  gpt_location = unwrap_or (size_at (2 * sector_size_of settings) (codes "gpt-location") settings) (2 * sector_size_of settings);
   gpt_no_backup = unwrap_or (truth_at (codes "gpt-no-backup") settings) false;
   fill = unwrap_or (truth_at (codes "fill") settings) false;
   sector_size = sector_size_of settings;
@@ -158,10 +158,10 @@ sparse_of head settings = answer (section_fault (sparse_head_fault head settings
 -- ---- flash at the top
 
 abbrev pub pebsize_at : List Setting → Option ℕ
-pebsize_at settings = option_and_then (size_from 1) (last_text (codes "pebsize") settings)
+pebsize_at settings = size_at 1 (codes "pebsize") settings
 
 abbrev pub numpebs_at : List Setting → Option ℕ
-numpebs_at settings = option_and_then (number_between 1 (2 ^ 64 - 1)) (last_text (codes "numpebs") settings)
+numpebs_at settings = number_at 1 (2 ^ 64 - 1) (codes "numpebs") settings
 
 -- a device of more than 2^43 bytes, where both its numbers are valid
 abbrev pub is_past : ℕ → ℕ → Bool
@@ -197,6 +197,6 @@ flash_of head settings = answer (section_fault (flash_head_fault head settings) 
 
 abbrev pub image_values : List Setting → ImageKeys
 image_values settings = record {
-  size = size_at (codes "size") settings;
+  size = size_at 0 (codes "size") settings;
   flashtype = last_text (codes "flashtype") settings;
 }

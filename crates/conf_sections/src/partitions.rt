@@ -101,9 +101,9 @@ fn partition_values(
 {
     Ok(PartitionSection {
         name: Name::of(alloc, head.text())?,
-        offset: size_at(settings, "offset"),
-        size: size_at(settings, "size"),
-        align: size_at(settings, "align"),
+        offset: size_at(settings, "offset", 0),
+        size: size_at(settings, "size", 0),
+        align: size_at(settings, "align", 1),
         image: name_at(alloc, settings, "image")?,
         fill: truth_at(settings, "fill").unwrap_or(false),
         autoresize: truth_at(settings, "autoresize").unwrap_or(false),

@@ -68,10 +68,10 @@ pub(crate) fn section_fault(
     }
 }
 
-pub(crate) fn size_at(settings: &[Setting], key: &str) -> Option<u64>
-    ensures { result ≡ size_at key.now settings.now }
+pub(crate) fn size_at(settings: &[Setting], key: &str, least: u64) -> Option<u64>
+    ensures { result ≡ size_at least key.now settings.now }
 {
-    values::size(last_text(settings, key)?.as_bytes())
+    values::size_from(last_text(settings, key)?.as_bytes(), least)
 }
 
 pub(crate) fn number_at(settings: &[Setting], key: &str, least: u32, most: u32) -> Option<u32>
@@ -129,13 +129,14 @@ fn hd_values(settings: &[Setting]) -> HdKeys
     ensures { result ≡ hd_values settings.now }
 {
     let sector_size = sector_at(settings, is_wide(settings)).unwrap_or(512);
+    let first = 2 * u64::from(sector_size);
     HdKeys {
-        align: size_at(settings, "align"),
+        align: size_at(settings, "align", 1),
         partition_table_type: table_at(settings).unwrap_or(TableKind::Mbr),
         extended_partition: number_at(settings, "extended-partition", 0, 4).unwrap_or(0),
         disk_signature: number_at(settings, "disk-signature", 0, u32::MAX).unwrap_or(0),
         disk_uuid: identifier_at(settings, "disk-uuid"),
-        gpt_location: size_at(settings, "gpt-location").unwrap_or(2 * u64::from(sector_size)),
+        gpt_location: size_at(settings, "gpt-location", first).unwrap_or(first),
         gpt_no_backup: truth_at(settings, "gpt-no-backup").unwrap_or(false),
         fill: truth_at(settings, "fill").unwrap_or(false),
         sector_size,
@@ -280,7 +281,7 @@ pub fn read_sparse(
 fn pebsize_at(settings: &[Setting]) -> Option<u64>
     ensures { result ≡ pebsize_at settings.now }
 {
-    values::size_from(last_text(settings, "pebsize")?.as_bytes(), 1)
+    size_at(settings, "pebsize", 1)
 }
 
 fn numpebs_at(settings: &[Setting]) -> Option<u64>
@@ -377,7 +378,7 @@ pub fn image_keys(alloc: Global, settings: &[Setting]) -> Result<ImageKeys, NoMe
     ensures { IfOk result (λ keys. keys ≡ image_values settings.now) }
 {
     Ok(ImageKeys {
-        size: size_at(settings, "size"),
+        size: size_at(settings, "size", 0),
         flashtype: name_at(alloc, settings, "flashtype")?,
     })
 }
