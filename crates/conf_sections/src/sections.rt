@@ -3,6 +3,7 @@ ghost use Rattle.std.specs.Prelude.{◌≡◌, IfOk, MatchResult};
 ghost use Rattle.conf_sections.specs.Checking.{step_of};
 ghost use Rattle.conf_sections.specs.Settings.{last_text};
 ghost use Rattle.conf_sections.specs.Sections.{Answers, fault_in, flash_head_fault, flash_of, flash_values, image_values, is_past, is_too_large, lacks_key, name_text, named_fault, numpebs_at, pebsize_at, block_size_at, config_of, config_values, hd_of, hd_section, hd_values, identifier_at, is_wide, number_at, plain_of, plain_values, section_fault, sector_at, size_at, sparse_head_fault, sparse_of, sparse_values, table_at, truth_at, unnamed_fault};
+ghost use Rattle.conf_sections.specs.Within.{IsHdWithin};
 
 use crate::checking::{SectionFault, check};
 use crate::conf::{ConfigKeys, FlashSection, HdKeys, ImageKeys, PlainKeys, SparseKeys};
@@ -148,7 +149,8 @@ fn hd_values(settings: &[Setting]) -> HdKeys
 /// `partition-table-type` alone. `gpt-location` is at least twice the section's last sector size, or
 /// twice 512 where that is refused.
 pub fn read_hd(head: &Head, settings: &[Setting]) -> Result<HdKeys, SectionFault>
-    ensures { result ≡ hd_of head.now settings.now }
+    ensures keys { result ≡ hd_of head.now settings.now }
+    ensures within { IfOk result IsHdWithin }
 {
     match section_fault(head.unnamed_fault(), hd_section(settings), settings) {
         Some(fault) => Err(fault),
