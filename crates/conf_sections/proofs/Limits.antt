@@ -1,6 +1,6 @@
 -- The values of keys are within the limits.
 use Rattle.std.proofs.Common.{◌≡◌, ℕ, ◌-◌, ◌*◌, ◌^◌, ◌<◌, ◌≤◌, ◌&&◌, ◌⊎◌, Bool, cond, true, false, List, length, take, Option, Some, None, inl, inr, refl, arith, leb-true, eqb-true}
-use Rattle.std.specs.Prelude.{IfSome, codes, slice_index, nat_le, nat_eq, option_and_then, unwrap_or, ◌||◌, ◌==◌}
+use Rattle.std.specs.Prelude.{IfSome, codes, slice_index, nat_le, nat_eq, option_and_then, unwrap_or, ◌||◌}
 use Rattle.base_fields.specs.declared.spans.TableKind.{TableKind}
 use Rattle.base_fields.specs.declared.spans.TableKind.TheVariants as table
 use Rattle.conf_sections.specs.declared.conf.HdKeys.{HdKeys}
@@ -54,9 +54,9 @@ pub number_at_within : (least most : ℕ) (key : List ℕ) (settings : List Sett
 number_at_within least most key settings =
     then_gives (number_between least most) (IsBetween least most)
     (λ text. then_gives (passing (is_between least most)) (IsBetween least most)
-      (passing_gives (is_between least most) (IsBetween least most)
-        (λ n e. let p = both (nat_le least n) (nat_le n most) e in (leb-true least n p.0, leb-true n most p.1)))
-      (number_of text))
+    (passing_gives (is_between least most) (IsBetween least most)
+    (λ n e. let p = both (nat_le least n) (nat_le n most) e in (leb-true least n p.0, leb-true n most p.1)))
+    (number_of text))
     (last_text key settings)
 
 -- a default that is within, too
@@ -87,8 +87,8 @@ sector_within : (wide : Bool) (o : Option (List ℕ)) → IsSector wide (unwrap_
 sector_within wide o =
     or_within (IsSector wide) (option_and_then (sector_of wide) o) 512 (sector_default wide)
     (then_gives (sector_of wide) (IsSector wide)
-      (λ text. then_gives (passing (is_sector wide)) (IsSector wide) (passing_gives (is_sector wide) (IsSector wide) (is_sector_gives wide)) (size_of text))
-      o)
+    (λ text. then_gives (passing (is_sector wide)) (IsSector wide) (passing_gives (is_sector wide) (IsSector wide) (is_sector_gives wide)) (size_of text))
+    o)
 
 sector_of_table : (found : Option TableKind) (n : ℕ) → IsSector (goes_with_wide found) n → IsSectorSize (unwrap_or found table.Mbr) n
 sector_of_table None n h = h
@@ -107,14 +107,19 @@ hd_within settings keys is = rw is values
   where
     sector : IsSector (goes_with_wide (table_at settings)) (sector_size_of settings)
     sector = sector_within (goes_with_wide (table_at settings)) (last_text (codes "sector-size") settings)
+
     small : sector_size_of settings ≤ 4096
     small = sector_small (goes_with_wide (table_at settings)) (sector_size_of settings) sector
+
     extended : IsBetween 0 4 (unwrap_or (number_at 0 4 (codes "extended-partition") settings) 0)
     extended = or_within (IsBetween 0 4) (number_at 0 4 (codes "extended-partition") settings) 0 (omega arith, omega arith) (number_at_within 0 4 (codes "extended-partition") settings)
+
     least_signature : IsBetween 0 (2 ^ 32 - 1) (unwrap_or (number_at 0 (2 ^ 32 - 1) (codes "disk-signature") settings) 0)
     least_signature = or_within (IsBetween 0 (2 ^ 32 - 1)) (number_at 0 (2 ^ 32 - 1) (codes "disk-signature") settings) 0 (omega arith, omega arith) (number_at_within 0 (2 ^ 32 - 1) (codes "disk-signature") settings)
+
     signature : unwrap_or (number_at 0 (2 ^ 32 - 1) (codes "disk-signature") settings) 0 < 2 ^ 32
     signature = omega (arith, least_signature.1)
+
     values : IsHdWithin (hd_values settings)
     values = record {
       align = size_at_within 1 (codes "align") settings;

@@ -10,9 +10,16 @@ mod settings;
 mod values;
 
 pub use checking::SectionFault;
-pub use conf::{Conf, ConfigKeys, FlashSection, HdKeys, Hole, ImageSection, Kind, PartitionSection, PlainKeys};
-pub use conf::{ImageKeys, SparseKeys, Vars};
+pub use conf::{
+    Conf, ConfigKeys, FlashSection, HdKeys, Hole, ImageKeys, ImageSection, Kind, PartitionSection,
+    PlainKeys, SparseKeys, Vars,
+};
 pub use partitions::read_partition;
-pub use sections::{Head, check_device, image_head_fault, image_keys, item_fault};
-pub use sections::{read_config, read_flash, read_hd, read_plain, read_sparse};
+pub use sections::{
+    Head, check_device, image_head_fault, image_keys, item_fault, read_config, read_flash, read_hd,
+    read_plain, read_sparse,
+};
 pub use settings::{Given, Place, Section, Setting, Value, Word};
+
+#[cfg(test)]
+mod tests;

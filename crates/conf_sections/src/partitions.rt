@@ -5,7 +5,9 @@ ghost use Rattle.conf_sections.specs.Sections.{Answers};
 
 use crate::checking::SectionFault;
 use crate::conf::{Hole, PartitionSection};
-use crate::sections::{Head, identifier_at, kept, name_at, number_at, section_fault, size_at, truth_at};
+use crate::sections::{
+    Head, identifier_at, kept, name_at, number_at, section_fault, size_at, truth_at,
+};
 use crate::settings::{Given, Section, Setting, Value, Word, last_text};
 use crate::values;
 use base_fields::{List, Name, NoMemory};
@@ -47,11 +49,7 @@ fn add_holes(holes: &mut List<Hole>, words: &[Word]) -> Result<(), NoMemory>
 }
 
 // The holes behind what the key is given: `=` begins them anew.
-fn given_holes(
-    alloc: Global,
-    mut holes: List<Hole>,
-    given: &Given,
-) -> Result<List<Hole>, NoMemory>
+fn given_holes(alloc: Global, mut holes: List<Hole>, given: &Given) -> Result<List<Hole>, NoMemory>
     ensures { IfOk result (λ after. after ≡ given_holes holes given.now) }
 {
     match given {
@@ -68,11 +66,7 @@ fn given_holes(
     }
 }
 
-fn with_setting(
-    alloc: Global,
-    holes: List<Hole>,
-    setting: &Setting,
-) -> Result<List<Hole>, NoMemory>
+fn with_setting(alloc: Global, holes: List<Hole>, setting: &Setting) -> Result<List<Hole>, NoMemory>
     ensures { IfOk result (λ after. after ≡ with_setting holes setting.now) }
 {
     if setting.key.text.text() == "holes" {

@@ -170,7 +170,11 @@ pub(crate) fn kept<Keys>(values: Result<Keys, NoMemory>) -> Result<Keys, Section
     }
 }
 
-pub(crate) fn name_at(alloc: Global, settings: &[Setting], key: &str) -> Result<Option<Name>, NoMemory>
+pub(crate) fn name_at(
+    alloc: Global,
+    settings: &[Setting],
+    key: &str,
+) -> Result<Option<Name>, NoMemory>
     ensures { IfOk result (λ name. name ≡ last_text key.now settings.now) }
 {
     match last_text(settings, key) {
@@ -251,7 +255,11 @@ fn sparse_head_fault(head: &Head, settings: &[Setting]) -> Option<SectionFault>
 fn block_size_at(settings: &[Setting]) -> Option<u32>
     ensures { result ≡ block_size_at settings.now }
 {
-    values::power_between(last_text(settings, "block-size")?.as_bytes(), 4096, 1_048_576)
+    values::power_between(
+        last_text(settings, "block-size")?.as_bytes(),
+        4096,
+        1_048_576,
+    )
 }
 
 fn sparse_values(alloc: Global, settings: &[Setting]) -> Result<SparseKeys, NoMemory>
@@ -326,11 +334,7 @@ fn lacks_key(settings: &[Setting]) -> bool
     last(settings, "pebsize").is_none() || last(settings, "numpebs").is_none()
 }
 
-fn flash_values(
-    alloc: Global,
-    head: &Head,
-    settings: &[Setting],
-) -> Result<FlashSection, NoMemory>
+fn flash_values(alloc: Global, head: &Head, settings: &[Setting]) -> Result<FlashSection, NoMemory>
     ensures { IfOk result (λ keys. keys ≡ flash_values head.now settings.now) }
 {
     Ok(FlashSection {
