@@ -1,0 +1,4 @@
+-- lemmas of the crate
+pub mod Digits
+pub mod Failing
+pub mod Limits
