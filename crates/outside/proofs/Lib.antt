@@ -1,4 +1,6 @@
 -- lemmas
+pub mod DiskLemmas
 mod LineLemmas
+pub mod MeterLemmas
 mod ReadLemmas
 mod WriteLemmas

@@ -2,9 +2,11 @@
 pub use Rattle.base_fields.specs.Fields
 pub mod Calls
 pub mod Counts
+pub mod Disk
 pub mod Files
 pub mod Lines
 pub mod Memory
+pub mod Meter
 pub mod Printer
 pub mod Reading
 pub mod Writing

@@ -1,7 +1,8 @@
-//! What lies outside of the program: files by name and a printer of lines, each as a trait with its meaning
-//! and its counts, as objects in memory, and as adapters of the host.
+//! What lies outside of the program: files by name, a printer of lines, and the two devices of a copy, each as a
+//! trait with its meaning and its counts, as objects in memory, and as adapters of the host.
 #![tactic(auto)]
 
+mod bench;
 mod failures;
 mod files;
 mod host;
@@ -11,6 +12,7 @@ mod printer;
 mod reading;
 mod writing;
 
+pub use bench::{Bench, BenchErr, Dev};
 pub use files::{ComposeFault, FileErr, Files, WriteErr};
 pub use host::{HostFiles, HostPrinter};
 pub use lines::{MemPrinter, SurePrinter};
@@ -19,5 +21,7 @@ pub use printer::{PrintErr, Printer};
 pub use reading::{FillFault, fill};
 pub use writing::{TransferFault, transfer};
 
+#[cfg(test)]
+mod bench_tests;
 #[cfg(test)]
 mod tests;
