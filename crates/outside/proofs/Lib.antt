@@ -1,6 +1,8 @@
 -- lemmas
 pub mod DiskLemmas
+pub mod HistoryLemmas
 mod LineLemmas
 pub mod MeterLemmas
 mod ReadLemmas
+pub mod RecordLemmas
 mod WriteLemmas

@@ -1,5 +1,5 @@
 -- What a bench tells of its two devices, and how a stop may leave them. A stop falls before, within or after a call.
-use Rattle.std.specs.Prelude.{◌≡◌, ◌⊎◌, ℕ, ◌+◌, ◌<◌, ◌≤◌, List, length, max, slice_index}
+use Rattle.std.specs.Prelude.{◌≡◌, ◌⊎◌, ℕ, ◌+◌, ◌<◌, ◌≤◌, List, [], length, max, slice_index}
 use Rattle.outside.specs.declared.bench.Dev.{Dev}
 use Rattle.outside.specs.declared.bench.Dev.TheVariants.{Target, Journal}
 
@@ -20,6 +20,10 @@ pub record Disk : Type 1 where
   pub leaves : Dev → List ℕ → Type 0
   pub moment : ℕ
   pub left : ℕ → List ℕ → List ℕ → Type 0
+
+-- of devices that are not known nothing is said
+abbrev pub untold : Disk
+untold = record { reads = λ dev. []; leaves = λ dev image. ⊥; moment = 0; left = λ m t j. ⊥ }
 
 -- a stop now may leave this pair: an image of the target and one of the journal
 abbrev pub IsPair : Disk → List ℕ → List ℕ → Type 0

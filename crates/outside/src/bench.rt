@@ -4,7 +4,7 @@ ghost use Rattle.outside.specs.declared.bench.Dev.{Dev};
 ghost use Rattle.outside.specs.declared.bench.Dev.TheVariants.{Journal};
 ghost use Rattle.outside.specs.Counts.{Rose};
 ghost use Rattle.outside.specs.Disk.{Disk, IsPair, IsSettled, StillLeaves, Torn, Grown, After, Looked, Touches, Grows, other_of};
-ghost use Rattle.outside.specs.Meter.{Meter, IsAttached, HasNoOther, FailsPastRoom, SameNames, Attaches, Bills};
+ghost use Rattle.outside.specs.Meter.{Meter, IsAttached, HasNoOther, FailsPastRoom, SameNames, Attaches, Bills, of_device};
 
 /// One of the two devices of a copy.
 #[derive(Clone, Copy, Debug, PartialEq, Eq)]
@@ -40,7 +40,7 @@ pub trait Bench {
         ensures looked { Looked (disk self.old) (disk self.new) }
         ensures stays { (each : Dev) → StillLeaves each (disk self.old) (disk self.new) }
         ensures bill { Bills dev (length name.now) (meter self.old) (meter self.new) }
-        ensures failed { OnErr result (Rose ((meter self.old).faults dev) ((meter self.new).faults dev)) }
+        ensures failed { OnErr result (Rose (of_device dev (meter self.old).faults) (of_device dev (meter self.new).faults)) }
         ensures ok { OnOk result (Attaches dev name.now (meter self.old) (meter self.new)) }
         ensures err { OnErr result (SameNames (meter self.old) (meter self.new)) };
 
@@ -52,7 +52,7 @@ pub trait Bench {
         ensures stays { (each : Dev) → StillLeaves each (disk self.old) (disk self.new) }
         ensures bill { Bills dev 0 (meter self.old) (meter self.new) }
         ensures same_names { SameNames (meter self.old) (meter self.new) }
-        ensures failed { OnErr result (Rose ((meter self.old).faults dev) ((meter self.new).faults dev)) };
+        ensures failed { OnErr result (Rose (of_device dev (meter self.old).faults) (of_device dev (meter self.new).faults)) };
 
     /// Fills the buffer with the bytes from an offset on. Where the devices are not known, a range that isn't inside
     /// the length is a failure.
@@ -64,7 +64,7 @@ pub trait Bench {
         ensures stays { (each : Dev) → StillLeaves each (disk self.old) (disk self.new) }
         ensures bill { Bills dev 0 (meter self.old) (meter self.new) }
         ensures same_names { SameNames (meter self.old) (meter self.new) }
-        ensures failed { OnErr result (Rose ((meter self.old).faults dev) ((meter self.new).faults dev)) };
+        ensures failed { OnErr result (Rose (of_device dev (meter self.old).faults) (of_device dev (meter self.new).faults)) };
 
     /// Writes bytes at an offset. Where the devices are not known, a range that isn't inside the length is a failure.
     /// After a failure the range reads any bytes.
@@ -76,7 +76,7 @@ pub trait Bench {
         ensures torn { OnOk result ((image : List ℕ) → After (Torn at (length bytes.now)) ((disk self.old).leaves dev) image → (disk self.new).leaves dev image) }
         ensures bill { Bills dev (length bytes.now) (meter self.old) (meter self.new) }
         ensures same_names { SameNames (meter self.old) (meter self.new) }
-        ensures failed { OnErr result (Rose ((meter self.old).faults dev) ((meter self.new).faults dev)) };
+        ensures failed { OnErr result (Rose (of_device dev (meter self.old).faults) (of_device dev (meter self.new).faults)) };
 
     /// Grows the journal to a length by zeros. Where the devices are not known, a length below the present one is a
     /// failure. After a failure it has any length between the old and the new.
@@ -88,7 +88,7 @@ pub trait Bench {
         ensures between { OnOk result ((image : List ℕ) → After (Grown len) ((disk self.old).leaves Dev.Journal) image → (disk self.new).leaves Dev.Journal image) }
         ensures bill { Bills Dev.Journal (len - length ((disk self.old).reads Dev.Journal)) (meter self.old) (meter self.new) }
         ensures same_names { SameNames (meter self.old) (meter self.new) }
-        ensures failed { OnErr result (Rose ((meter self.old).faults Dev.Journal) ((meter self.new).faults Dev.Journal)) };
+        ensures failed { OnErr result (Rose (of_device Dev.Journal (meter self.old).faults) (of_device Dev.Journal (meter self.new).faults)) };
 
     /// Puts all that is written to a device on its disk. After a failure all that was pending still is.
     fn sync(&mut self, dev: Dev) -> Result<(), BenchErr>
@@ -99,7 +99,7 @@ pub trait Bench {
         ensures pending { OnErr result (StillLeaves dev (disk self.old) (disk self.new)) }
         ensures bill { Bills dev 0 (meter self.old) (meter self.new) }
         ensures same_names { SameNames (meter self.old) (meter self.new) }
-        ensures failed { OnErr result (Rose ((meter self.old).faults dev) ((meter self.new).faults dev)) };
+        ensures failed { OnErr result (Rose (of_device dev (meter self.old).faults) (of_device dev (meter self.new).faults)) };
 
     /// The present counts as since any earlier moment.
     ghost counts_now: { (bench : Self) (m : ℕ) (t j : List ℕ) → m ≤ (disk bench).moment → IsPair (disk bench) t j → (disk bench).left m t j };

@@ -6,15 +6,18 @@ mod bench;
 mod failures;
 mod files;
 mod host;
+mod host_bench;
 mod lines;
 mod memory;
 mod printer;
 mod reading;
+mod record;
 mod writing;
 
 pub use bench::{Bench, BenchErr, Dev};
 pub use files::{ComposeFault, FileErr, Files, WriteErr};
 pub use host::{HostFiles, HostPrinter};
+pub use host_bench::HostBench;
 pub use lines::{MemPrinter, SurePrinter};
 pub use memory::{MemFiles, SureFiles, TrickleFiles};
 pub use printer::{PrintErr, Printer};
