@@ -1,5 +1,5 @@
 -- The calls on a bench in memory, and what the devices read and may leave after them.
-use Rattle.std.specs.Prelude.{◌≡◌, ◌⊎◌, ℕ, zero, suc, ◌+◌, ◌-◌, ◌≤◌, List, [], ◌∷◌, ◌++◌, length, replicate, Option, None, Some}
+use Rattle.std.specs.Prelude.{◌≡◌, ◌⊎◌, ℕ, zero, suc, ◌+◌, ◌-◌, ◌≤◌, List, [], ◌∷◌, ◌++◌, length, replicate, Bool, if◌then◌else◌, Option, None, Some}
 use Rattle.outside.specs.declared.bench.Dev.{Dev}
 use Rattle.outside.specs.declared.bench.Dev.TheVariants.{Target, Journal}
 use Rattle.outside.specs.Disk.{Disk, Torn, Grown, After}
@@ -94,3 +94,11 @@ pub record Log : Type 0 where
 -- the record with one more call, which used so much of the room
 abbrev pub logged : Log → Call → ℕ → Log
 logged log call cost = record { calls = call ∷ log.calls; used = log.used + cost; room = log.room }
+
+-- nothing was recorded, or that a call on a device did nothing, with so many bytes
+abbrev pub Rested : Dev → ℕ → Log → Log → Type 0
+Rested dev bytes old new = (new ≡ old) ⊎ (new ≡ logged old (record { dev = dev; effect = Rests }) (32 + bytes))
+
+-- the work of a bench: the room that is used, or one more than the room, where a call would have passed it
+abbrev pub work_of : Bool → Log → ℕ
+work_of past log = if past then log.room + 1 else log.used

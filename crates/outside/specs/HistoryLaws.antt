@@ -1,12 +1,12 @@
 -- What holds of devices after calls.
-use Rattle.std.proofs.Common.{◌≡◌, ◌⊎◌, ℕ, zero, suc, ◌+◌, ◌-◌, ◌<◌, ◌≤◌, List, [], ◌∷◌, ◌++◌, length, max, replicate, slice_index, inl, inr, refl, ap, arith}
+use Rattle.std.proofs.Common.{◌≡◌, ◌⊎◌, ℕ, zero, suc, ◌+◌, ◌-◌, ◌<◌, ◌≤◌, List, [], ◌∷◌, ◌++◌, length, max, replicate, slice_index, inl, inr, refl, ap, Bool, true, false, Some, arith}
 use Rattle.std.proofs.lemmas.Grind.{common_steps}
 use Rattle.std.proofs.lemmas.List.{get_or_append_left}
 use Rattle.std.proofs.Math.Seq.{get_or-append_right}
 use Rattle.outside.specs.declared.bench.Dev.{Dev}
 use Rattle.outside.specs.declared.bench.Dev.TheVariants.{Target, Journal}
 use Rattle.outside.specs.Disk.{IsPair, Torn, Grown}
-use Rattle.outside.specs.History.{Effect, Writes, Grows, Settles, Names, Rests, Call, effect_on, over, lengthened, read_after, images_after, reads_of, images_of, left_of, disk_of}
+use Rattle.outside.specs.History.{Effect, Writes, Grows, Settles, Names, Rests, Call, effect_on, over, lengthened, read_after, images_after, reads_of, images_of, left_of, disk_of, Log, work_of}
 use Rattle.outside.specs.Meter.{Both}
 
 -- bytes over others leave the length
@@ -80,3 +80,8 @@ pub only_now_of : (first : Both (List ℕ)) (calls : List Call) (t j : List ℕ)
 only_now_of first [] t j left = (left.1, left.2)
 only_now_of first (call ∷ calls) t j (inl now) = (now.1, now.2)
 only_now_of first (call ∷ calls) t j (inr before) = absurd (none_later first calls (length (call ∷ calls)) t j (omega arith) before)
+
+-- a work not above the room is the room that is used
+pub within_room : (past : Bool) (log : Log) (room : ℕ) (P : Type 0) → Some log.room ≡ Some room → work_of past log ≤ room → (past ≡ false → P) → P
+within_room true log room P is le holds = let e : log.room ≡ room = cc in absurd (omega (arith, e, le))
+within_room false log room P is le holds = holds refl

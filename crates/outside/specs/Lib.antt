@@ -8,6 +8,7 @@ pub mod History
 pub mod HistoryLaws
 pub mod HostBench
 pub mod Lines
+pub mod MemBench
 pub mod Memory
 pub mod Meter
 pub mod Printer

@@ -1,10 +1,10 @@
 ghost use Rattle.std.specs.Prelude.{◌≡◌, ◌≤◌, ℕ, IsSome, IfOk, OnErr, string_bytes, None};
 ghost use Rattle.std.proofs.Common.{rules};
-ghost use Rattle.outside.specs.Counts.{Rose};
-ghost use Rattle.outside.specs.Disk.{untold, other_of};
+ghost use Rattle.outside.specs.Disk.{untold};
 ghost use Rattle.outside.specs.HostBench.{Devices, counted, name_of};
-ghost use Rattle.outside.specs.Meter.{Both, of_device};
+ghost use Rattle.outside.specs.Meter.{Both};
 
+use crate::faults::Faults;
 use crate::{Bench, BenchErr, Dev};
 use std::fs::{OpenFile, OpenOptions};
 use std::io::{ErrorKind, Read, Seek, SeekFrom, Write};
@@ -27,53 +27,10 @@ struct Device<F> {
     name: String,
 }
 
-/// How many calls on each device have failed.
-#[derive(Debug, Drop)]
-struct Faults {
-    target: u64,
-    journal: u64,
-}
-
 impl<R: rt::Files + AllocGlobal> Model for HostBench<R> {
     ghost Value = { Devices };
 
     ghost view = { λ h. record { faults = h.faults; name = record { target = name_of h.target; journal = name_of h.journal } } };
-}
-
-impl Model for Faults {
-    ghost Value = { Both ℕ };
-
-    ghost view = { λ f. record { target = f.target; journal = f.journal } };
-}
-
-impl Faults {
-    fn new() -> Faults
-        ensures { result ≡ record { target = 0; journal = 0 } }
-    {
-        Faults {
-            target: 0,
-            journal: 0,
-        }
-    }
-
-    /// Counts a call on a device where it failed.
-    fn counted<T: Drop>(&mut self, dev: Dev, outcome: io::Result<T>) -> Result<T, BenchErr>
-        ensures same { IfOk result (λ value. outcome ≡ Ok value) }
-        ensures none_fell { of_device dev self.old ≤ of_device dev self.new }
-        ensures failed { OnErr result (Rose (of_device dev self.old) (of_device dev self.new)) }
-        ensures other { of_device (other_of dev) self.new ≡ of_device (other_of dev) self.old }
-    {
-        match outcome {
-            Ok(value) => Ok(value),
-            Err(_) => {
-                match dev {
-                    Dev::Target => self.target = self.target.saturating_add(1),
-                    Dev::Journal => self.journal = self.journal.saturating_add(1),
-                }
-                Err(BenchErr)
-            }
-        }
-    }
 }
 
 impl<R: rt::Files + AllocGlobal> HostBench<R> {

@@ -4,10 +4,13 @@
 
 mod bench;
 mod failures;
+mod faults;
 mod files;
+mod gate;
 mod host;
 mod host_bench;
 mod lines;
+mod mem_bench;
 mod memory;
 mod printer;
 mod reading;
@@ -19,6 +22,7 @@ pub use files::{ComposeFault, FileErr, Files, WriteErr};
 pub use host::{HostFiles, HostPrinter};
 pub use host_bench::HostBench;
 pub use lines::{MemPrinter, SurePrinter};
+pub use mem_bench::MemBench;
 pub use memory::{MemFiles, SureFiles, TrickleFiles};
 pub use printer::{PrintErr, Printer};
 pub use reading::{FillFault, fill};

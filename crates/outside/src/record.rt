@@ -71,7 +71,8 @@ impl Record {
 
     /// Whether there is room for a call with so many bytes.
     pub fn has_room(&self, bytes: usize) -> bool
-        ensures { IsTrue result ↔ (self.now.used + 32 + bytes ≤ self.now.room) }
+        ensures exact { IsTrue result ↔ (self.now.used + 32 + bytes ≤ self.now.room) }
+        ensures within { self.now.used ≤ self.now.room }
     {
         let left = self.room - self.used;
         left >= 32 && left - 32 >= bytes

@@ -1,0 +1,89 @@
+ghost use Rattle.std.specs.Prelude.{◌≡◌, ◌≢◌, ◌≤◌, ◌+◌, ◌∷◌, ◌++◌, ◌↔◌, [], IsTrue, Contains, Some, None, OnOk, OnErr, false, length};
+ghost use Rattle.outside.specs.Counts.{Rose};
+ghost use Rattle.outside.specs.Calls.{more, listing};
+ghost use Rattle.outside.specs.Disk.{other_of};
+ghost use Rattle.outside.specs.History.{Rested, work_of};
+ghost use Rattle.outside.specs.Meter.{of_device};
+
+use crate::Dev;
+use crate::failures::Failures;
+use crate::faults::Faults;
+use crate::record::{Kind, Record};
+use base_fields::NoMemory;
+use std::alloc::Global;
+
+/// Which calls on a bench in memory fail, and what was counted.
+#[derive(Debug, Drop)]
+pub struct Gate {
+    pub failures: Failures,
+    /// How many more calls pass, where that was said.
+    pub passing: Option<u64>,
+    pub faults: Faults,
+    /// A call would have passed the room.
+    pub past: bool,
+    /// No number is listed, and all calls pass.
+    pub sure: bool,
+    ghost none_listed: { IsTrue sure → failures.failing ≡ [] },
+    ghost all_pass: { IsTrue sure → passing ≡ None },
+    ghost no_fault: { IsTrue sure → past ≡ false → faults ≡ record { target = 0; journal = 0 } },
+}
+
+impl Gate {
+    /// All calls pass. Takes no memory.
+    pub fn new(alloc: Global) -> Gate {
+        Gate {
+            failures: Failures::new(alloc),
+            passing: None,
+            faults: Faults::new(),
+            past: false,
+            sure: true,
+        }
+    }
+
+    /// Whether a call on a device with so many bytes passes. One that fails is counted, and its room is used.
+    pub fn passes(&mut self, log: &mut Record, dev: Dev, bytes: usize) -> bool
+        ensures exact { IsTrue result ↔ ((¬ Contains self.old.failures.failing self.old.failures.next)
+            × (self.old.passing ≢ Some 0) × (self.old.past ≡ false)
+            × (log.old.used + 32 + bytes ≤ log.old.room)) }
+        ensures same_log { IsTrue result → log.new ≡ log.old }
+        ensures same_faults { IsTrue result → self.new.faults ≡ self.old.faults }
+        ensures not_past { IsTrue result → self.new.past ≡ false }
+        ensures rested { result ≡ false → Rested dev bytes log.old log.new }
+        ensures rose { result ≡ false → Rose (of_device dev self.old.faults) (of_device dev self.new.faults) }
+        ensures none_fell { of_device dev self.old.faults ≤ of_device dev self.new.faults }
+        ensures other { of_device (other_of dev) self.new.faults ≡ of_device (other_of dev) self.old.faults }
+        ensures no_less { work_of self.old.past log.old ≤ work_of self.new.past log.new }
+        ensures work { work_of self.new.past log.new ≤ work_of self.old.past log.old + 32 + bytes }
+        ensures same_room { log.new.room ≡ log.old.room }
+        ensures used { log.old.used ≤ log.new.used }
+        ensures same_sure { self.new.sure ≡ self.old.sure }
+        ensures next { self.new.failures.next ≡ more self.old.failures.next }
+    {
+        let listed = self.failures.fails();
+        let stopped = stops(&mut self.passing);
+        if self.past || !log.has_room(bytes) {
+            self.past = true;
+        } else if listed || stopped {
+            log.push(dev, Kind::Rested, 0, &[], bytes);
+        } else {
+            return true;
+        }
+        self.faults.count(dev);
+        false
+    }
+}
+
+/// Whether the calls that pass are used up, after one call more.
+fn stops(passing: &mut Option<u64>) -> bool
+    ensures exact { IsTrue result ↔ (passing.old ≡ Some 0) }
+    ensures none { passing.old ≡ None → passing.new ≡ None }
+{
+    match *passing {
+        None => false,
+        Some(0) => true,
+        Some(n) => {
+            *passing = Some(n - 1);
+            false
+        }
+    }
+}
