@@ -9,6 +9,7 @@ pub mod HistoryLaws
 pub mod HostBench
 pub mod Lines
 pub mod MemBench
+pub mod MemBenchCalls
 pub mod Memory
 pub mod Meter
 pub mod Printer

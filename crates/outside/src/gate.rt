@@ -1,6 +1,6 @@
-ghost use Rattle.std.specs.Prelude.{◌≡◌, ◌≢◌, ◌≤◌, ◌+◌, ◌∷◌, ◌++◌, ◌↔◌, [], IsTrue, Contains, Some, None, OnOk, OnErr, false, length};
+ghost use Rattle.std.specs.Prelude.{◌≡◌, ◌≢◌, ◌≤◌, ◌+◌, ◌↔◌, [], IsTrue, Contains, Some, None, OnOk, OnErr, false, true};
 ghost use Rattle.outside.specs.Counts.{Rose};
-ghost use Rattle.outside.specs.Calls.{more, listing};
+ghost use Rattle.outside.specs.Calls.{listing, more, unused};
 ghost use Rattle.outside.specs.Disk.{other_of};
 ghost use Rattle.outside.specs.History.{Rested, work_of};
 ghost use Rattle.outside.specs.Meter.{of_device};
@@ -30,7 +30,13 @@ pub struct Gate {
 
 impl Gate {
     /// All calls pass. Takes no memory.
-    pub fn new(alloc: Global) -> Gate {
+    pub fn new(alloc: Global) -> Gate
+        ensures failures { result.failures ≡ unused }
+        ensures passing { result.passing ≡ None }
+        ensures faults { result.faults ≡ record { target = 0; journal = 0 } }
+        ensures past { result.past ≡ false }
+        ensures sure { result.sure ≡ true }
+    {
         Gate {
             failures: Failures::new(alloc),
             passing: None,
@@ -38,6 +44,31 @@ impl Gate {
             past: false,
             sure: true,
         }
+    }
+
+    /// Lets the call of this number fail.
+    pub fn list(&mut self, call: u64) -> Result<(), NoMemory>
+        ensures ok { OnOk result ((self.new.failures ≡ listing self.old.failures call) × (self.new.sure ≡ false)) }
+        ensures err { OnErr result ((self.new.failures ≡ self.old.failures) × (self.new.sure ≡ self.old.sure)) }
+        ensures same_passing { self.new.passing ≡ self.old.passing }
+        ensures same_faults { self.new.faults ≡ self.old.faults }
+        ensures same_past { self.new.past ≡ self.old.past }
+    {
+        self.failures.list(call)?;
+        self.sure = false;
+        Ok(())
+    }
+
+    /// Lets so many calls more pass, and none after them.
+    pub fn stop_after(&mut self, calls: u64)
+        ensures passing { self.new.passing ≡ Some calls }
+        ensures sure { self.new.sure ≡ false }
+        ensures same_failures { self.new.failures ≡ self.old.failures }
+        ensures same_faults { self.new.faults ≡ self.old.faults }
+        ensures same_past { self.new.past ≡ self.old.past }
+    {
+        self.sure = false;
+        self.passing = Some(calls);
     }
 
     /// Whether a call on a device with so many bytes passes. One that fails is counted, and its room is used.

@@ -1,4 +1,4 @@
-ghost use Rattle.std.specs.Prelude.{◌≡◌, ◌≤◌, ◌+◌, ◌++◌, length, take, drop, replicate, vec_len, vec_capacity};
+ghost use Rattle.std.specs.Prelude.{◌≡◌, ◌≤◌, ◌+◌, ◌++◌, IfOk, OnOk, OnErr, Some, None, false, length, take, drop, replicate, vec_len, vec_capacity};
 ghost use Rattle.base_fields.specs.Fields.{written};
 ghost use Rattle.outside.specs.declared.bench.Dev.TheVariants.{Target, Journal};
 ghost use Rattle.outside.specs.Disk.{other_of, part_of};
@@ -9,6 +9,8 @@ ghost use Rattle.outside.specs.MemBench.{meter_of};
 use crate::gate::Gate;
 use crate::record::{Kind, Record};
 use crate::{Bench, BenchErr, Dev};
+use base_fields::NoMemory;
+use std::alloc::Global;
 
 /// The two devices in memory. They tell all: each call is recorded with its bytes.
 #[derive(Debug, Drop)]
@@ -22,6 +24,58 @@ pub struct MemBench {
     ghost target_reads: { target.items ≡ reads_of (record { target = first_target.items; journal = first_journal.items }) log.calls Target },
     ghost journal_reads: { journal.items ≡ reads_of (record { target = first_target.items; journal = first_journal.items }) log.calls Journal },
     ghost journal_room: { length journal.items + log.room ≤ vec_capacity journal + log.used },
+}
+
+impl MemBench {
+    ghost use Rattle.outside.specs.Calls.{listing, unused};
+    ghost use Rattle.outside.specs.MemBenchCalls.{calls_of, passing_of, story_of, untouched, uncounted};
+
+    /// The two devices with these bytes, all of them on the disk, both attached without a name. All memory that
+    /// later calls need is taken here: `room` bytes for the record of the calls and as many for their bytes, and
+    /// both devices with what the journal may grow by.
+    pub fn new(
+        alloc: Global,
+        target: &[u8],
+        journal: &[u8],
+        room: usize,
+    ) -> Result<MemBench, NoMemory>
+        ensures story { IfOk result (λ m. story_of m ≡ untouched target.now journal.now room) }
+        ensures meter { IfOk result (λ m. ⟦<MemBench as Bench>⟧.meter m ≡ uncounted room) }
+        ensures calls { IfOk result (λ m. calls_of m ≡ unused) }
+        ensures passing { IfOk result (λ m. passing_of m ≡ None) }
+    {
+        Ok(MemBench {
+            first_target: Vec::from_slice(alloc, target)?,
+            first_journal: Vec::from_slice(alloc, journal)?,
+            target: Vec::from_slice(alloc, target)?,
+            journal: with_room(alloc, journal, room)?,
+            log: Record::new(alloc, room)?,
+            gate: Gate::new(alloc),
+        })
+    }
+
+    /// Lets the call of this number fail. The calls of the two devices are numbered from 0 from the making of the
+    /// object.
+    pub fn fail(&mut self, call: u64) -> Result<(), NoMemory>
+        ensures ok { OnOk result ((calls_of self.new ≡ listing (calls_of self.old) call)
+            × (⟦<MemBench as Bench>⟧.meter self.new ≡ record (⟦<MemBench as Bench>⟧.meter self.old) { sure = false })) }
+        ensures err { OnErr result ((calls_of self.new ≡ calls_of self.old)
+            × (⟦<MemBench as Bench>⟧.meter self.new ≡ ⟦<MemBench as Bench>⟧.meter self.old)) }
+        ensures same_passing { passing_of self.new ≡ passing_of self.old }
+        ensures same_story { story_of self.new ≡ story_of self.old }
+    {
+        self.gate.list(call)
+    }
+
+    /// Lets so many calls more pass. Every later call fails.
+    pub fn stop_after(&mut self, calls: u64)
+        ensures passing { passing_of self.new ≡ Some calls }
+        ensures meter { ⟦<MemBench as Bench>⟧.meter self.new ≡ record (⟦<MemBench as Bench>⟧.meter self.old) { sure = false } }
+        ensures same_calls { calls_of self.new ≡ calls_of self.old }
+        ensures same_story { story_of self.new ≡ story_of self.old }
+    {
+        self.gate.stop_after(calls);
+    }
 }
 
 impl Bench for MemBench {
@@ -96,6 +150,19 @@ impl Bench for MemBench {
         self.log.push(dev, Kind::Synced, 0, &[], 0);
         Ok(())
     }
+}
+
+/// The bytes, with room for so many more.
+fn with_room(alloc: Global, bytes: &[u8], more: usize) -> Result<Vec<u8>, NoMemory>
+    ensures items { IfOk result (λ v. v.items ≡ bytes.now) }
+    ensures room { IfOk result (λ v. length bytes.now + more ≤ vec_capacity v) }
+{
+    let Some(all) = bytes.len().checked_add(more) else {
+        return Err(NoMemory);
+    };
+    let mut copy = Vec::with_capacity(alloc, all)?;
+    copy.extend_from_slice(bytes)?;
+    Ok(copy)
 }
 
 /// Fills the buffer with the bytes from an offset on.

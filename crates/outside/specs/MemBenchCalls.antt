@@ -1,0 +1,37 @@
+-- Which calls on a bench in memory fail, and what it has recorded.
+use Rattle.std.specs.Prelude.{ℕ, List, [], Option, None, Some, true}
+use Rattle.outside.specs.declared.mem_bench.MemBench.{MemBench}
+use Rattle.outside.specs.Calls.{Calls}
+use Rattle.outside.specs.History.{Log}
+use Rattle.outside.specs.Meter.{Both, Meter}
+
+-- the number of the next call, and those of the calls that fail
+abbrev pub calls_of : MemBench → Calls
+calls_of bench = bench.gate.failures
+
+-- how many more calls pass, where that was said
+abbrev pub passing_of : MemBench → Option ℕ
+passing_of bench = bench.gate.passing
+
+-- what both devices had at first, and the calls since, which say what they read and may leave
+pub record Story : Type 0 where
+  pub first : Both (List ℕ)
+  pub log : Log
+
+abbrev pub story_of : MemBench → Story
+story_of bench = record { first = record { target = bench.first_target.items; journal = bench.first_journal.items }; log = bench.log }
+
+-- the story of two devices that no call has met
+abbrev pub untouched : List ℕ → List ℕ → ℕ → Story
+untouched target journal room = record { first = record { target = target; journal = journal }; log = record { calls = []; used = 0; room = room } }
+
+-- what is counted before any call
+abbrev pub uncounted : ℕ → Meter
+uncounted room = record {
+  faults = record { target = 0; journal = 0 };
+  work = 0;
+  attached = record { target = true; journal = true };
+  name = record { target = None; journal = None };
+  room = Some room;
+  sure = true;
+}
