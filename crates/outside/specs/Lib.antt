@@ -7,6 +7,7 @@ pub mod Files
 pub mod History
 pub mod HistoryLaws
 pub mod HostBench
+pub mod Leaving
 pub mod Lines
 pub mod MemBench
 pub mod MemBenchCalls

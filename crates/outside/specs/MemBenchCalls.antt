@@ -1,8 +1,10 @@
 -- Which calls on a bench in memory fail, and what it has recorded.
-use Rattle.std.specs.Prelude.{ℕ, List, [], Option, None, Some, true}
+use Rattle.std.specs.Prelude.{ℕ, List, [], Bool, Option, None, Some, true}
 use Rattle.outside.specs.declared.mem_bench.MemBench.{MemBench}
+use Rattle.outside.specs.declared.bench.Dev.{Dev}
 use Rattle.outside.specs.Calls.{Calls}
 use Rattle.outside.specs.History.{Log}
+use Rattle.outside.specs.Leaving.{kept_image, pending_of, settled_both}
 use Rattle.outside.specs.Meter.{Both, Meter}
 
 -- the number of the next call, and those of the calls that fail
@@ -35,3 +37,11 @@ uncounted room = record {
   room = Some room;
   sure = true;
 }
+
+-- the image of a device where the pending calls are kept whose number says so
+abbrev pub kept_of : Story → List Bool → Dev → List ℕ
+kept_of story keep dev = kept_image story.first keep story.log.calls dev
+
+-- how many calls are pending
+abbrev pub pending_in : Story → ℕ
+pending_in story = pending_of (settled_both story.log.calls) story.log.calls

@@ -1,13 +1,14 @@
 ghost use Rattle.std.specs.Prelude.{◌≡◌, ◌≤◌, ◌+◌, ◌++◌, IfOk, OnOk, OnErr, Some, None, false, length, take, drop, replicate, vec_len, vec_capacity};
 ghost use Rattle.base_fields.specs.Fields.{written};
 ghost use Rattle.outside.specs.declared.bench.Dev.TheVariants.{Target, Journal};
-ghost use Rattle.outside.specs.Disk.{other_of, part_of};
+ghost use Rattle.outside.specs.Disk.{IsPair, other_of, part_of};
 ghost use Rattle.outside.specs.History.{disk_of, reads_of};
 ghost use Rattle.outside.specs.HistoryLaws.{counts_now_of, only_now_of, reads_leave_of, within_room};
+ghost use Rattle.outside.specs.Leaving.{settled_of};
 ghost use Rattle.outside.specs.MemBench.{meter_of};
 
 use crate::gate::Gate;
-use crate::record::{Kind, Record};
+use crate::record::{Choice, Kind, Record};
 use crate::{Bench, BenchErr, Dev};
 use base_fields::NoMemory;
 use std::alloc::Global;
@@ -28,7 +29,7 @@ pub struct MemBench {
 
 impl MemBench {
     ghost use Rattle.outside.specs.Calls.{listing, unused};
-    ghost use Rattle.outside.specs.MemBenchCalls.{calls_of, passing_of, story_of, untouched, uncounted};
+    ghost use Rattle.outside.specs.MemBenchCalls.{calls_of, kept_of, passing_of, pending_in, story_of, untouched, uncounted};
 
     /// The two devices with these bytes, all of them on the disk, both attached without a name. All memory that
     /// later calls need is taken here: `room` bytes for the record of the calls and as many for their bytes, and
@@ -75,6 +76,50 @@ impl MemBench {
         ensures same_story { story_of self.new ≡ story_of self.old }
     {
         self.gate.stop_after(calls);
+    }
+
+    /// How many writes and growths of both devices are pending.
+    pub fn pending(&self) -> usize
+        ensures { result ≡ pending_in (story_of self.now) }
+    {
+        self.log.pending(self.settled())
+    }
+
+    /// A bench on one image of each device. The pending write number i, counted from 0 over both devices in the
+    /// order of the calls, is there whole where `keep[i]` is true, and absent where it is false or `keep` ends
+    /// before; a pending growth counts as a write. The journal has the greatest length of a growth that is kept,
+    /// else that of its last sync, and what was written past it is cut. Nothing is pending, no device has a name,
+    /// no call fails, and none of the room is used.
+    #[tactic(auto, using(crate::proofs::LeavingLemmas::image_leaves, crate::proofs::ReplayLemmas::image_first))]
+    pub fn leave(self, alloc: Global, keep: &[bool]) -> Result<MemBench, NoMemory>
+        ensures story { IfOk result (λ m. story_of m ≡ untouched (kept_of (story_of self) keep.now Dev.Target) (kept_of (story_of self) keep.now Dev.Journal) (story_of self).log.room) }
+        ensures among { IfOk result (λ m. IsPair (⟦<MemBench as Bench>⟧.disk self) ((⟦<MemBench as Bench>⟧.disk m).reads Dev.Target) ((⟦<MemBench as Bench>⟧.disk m).reads Dev.Journal)) }
+        ensures meter { IfOk result (λ m. ⟦<MemBench as Bench>⟧.meter m ≡ uncounted (story_of self).log.room) }
+        ensures calls { IfOk result (λ m. calls_of m ≡ unused) }
+        ensures passing { IfOk result (λ m. passing_of m ≡ None) }
+    {
+        let settled = self.settled();
+        let most = self.log.kept_length(settled, keep);
+        let choice = Choice { most, ..settled };
+        let target = self
+            .log
+            .image(alloc, &self.first_target, Dev::Target, choice, keep)?;
+        let journal = self
+            .log
+            .image(alloc, &self.first_journal, Dev::Journal, choice, keep)?;
+        let left = MemBench::new(alloc, &target, &journal, self.log.room())?;
+        Ok(left)
+    }
+
+    /// Where each device was settled last.
+    fn settled(&self) -> Choice
+        ensures { result ≡ record { target = settled_of (story_of self.now).log.calls Dev.Target; journal = settled_of (story_of self.now).log.calls Dev.Journal; most = 0 } }
+    {
+        Choice {
+            target: self.log.settled(Dev::Target),
+            journal: self.log.settled(Dev::Journal),
+            most: 0,
+        }
     }
 }
 

@@ -1,5 +1,9 @@
-ghost use Rattle.std.specs.Prelude.{◌≡◌, ◌+◌, ◌≤◌, ◌↔◌, IsTrue, ◌++◌, ◌∷◌, [], IfOk, length, vec_len, vec_capacity};
-ghost use Rattle.outside.specs.History.{logged};
+ghost use Rattle.std.specs.Prelude.{◌≡◌, ℕ, if◌then◌else◌, List, OnOk, ◌&&◌, false, nat_le, slice_index_or, ◌+◌, ◌≤◌, ◌↔◌, IsTrue, ◌++◌, ◌∷◌, [], IfOk, length, vec_len, vec_capacity};
+ghost use Rattle.base_fields.specs.Fields.{written};
+ghost use Rattle.outside.specs.Disk.{part_of};
+ghost use Rattle.outside.specs.History.{Effect, Rests, effect_on, lengthened, logged, over, read_after};
+ghost use Rattle.outside.specs.Leaving.{changes, grown_to, image_after, settled_from};
+ghost use Rattle.outside.specs.Record.{IsWithin, call_of, effect_of};
 
 use crate::Dev;
 use base_fields::NoMemory;
@@ -78,11 +82,11 @@ impl Record {
         left >= 32 && left - 32 >= bytes
     }
 
-    /// The room that is used.
-    pub fn used(&self) -> usize
-        ensures { result ≡ self.now.used }
+    /// All the room.
+    pub fn room(&self) -> usize
+        ensures { result ≡ self.now.room }
     {
-        self.used
+        self.room
     }
 
     #[tactic(auto, using(crate::proofs::RecordLemmas::calls_more))]
@@ -107,6 +111,242 @@ impl Record {
             bytes,
         );
     }
+}
+
+/// What a stop keeps: where each device was settled last, and how far the journal is grown.
+#[derive(Clone, Copy, Debug)]
+pub struct Choice {
+    pub target: usize,
+    pub journal: usize,
+    pub most: u64,
+}
+
+impl Record {
+    ghost use Rattle.outside.specs.History.{reads_of};
+    ghost use Rattle.outside.specs.Leaving.{settled_of, pending_of, kept_length, image_of};
+
+    /// How many calls there were up to the last that put all of a device on its disk.
+    pub fn settled(&self, dev: Dev) -> usize
+        ensures { result ≡ settled_of self.now.calls dev }
+    {
+        let mut last = 0;
+        for k in 0..self.entries.len() {
+            last = settled_after(self.entries[k], dev, k + 1, last);
+        }
+        last
+    }
+
+    /// How many of the calls are pending.
+    pub fn pending(&self, choice: Choice) -> usize
+        ensures { result ≡ pending_of (record { target = choice.target; journal = choice.journal }) self.now.calls }
+    {
+        let mut number = 0;
+        for k in 0..self.entries.len() {
+            if is_pending(self.entries[k], k, choice) {
+                number += 1;
+            }
+        }
+        number
+    }
+
+    /// The greatest length of a pending growth that is kept.
+    pub fn kept_length(&self, choice: Choice, keep: &[bool]) -> u64
+        ensures { result ≡ kept_length (record { target = choice.target; journal = choice.journal }) keep.now self.now.calls }
+    {
+        let mut number = 0;
+        let mut most = 0;
+        for k in 0..self.entries.len() {
+            let entry = self.entries[k];
+            if is_pending(entry, k, choice) {
+                most = grown_to(entry, is_kept(keep, number), most);
+                number += 1;
+            }
+        }
+        most
+    }
+
+    /// The image of a device, from what it had at first.
+    pub fn image(
+        &self,
+        alloc: Global,
+        first: &[u8],
+        dev: Dev,
+        choice: Choice,
+        keep: &[bool],
+    ) -> Result<Vec<u8>, NoMemory>
+        ensures { IfOk result (λ v. v.items ≡ image_of (record { target = first.now; journal = first.now }) (record { target = choice.target; journal = choice.journal }) keep.now choice.most dev self.now.calls) }
+    {
+        let mut number = 0;
+        let mut reads = Vec::from_slice(alloc, first)?;
+        let mut image = Vec::from_slice(alloc, first)?;
+        for k in 0..self.entries.len() {
+            let entry = self.entries[k];
+            let most = choice.most;
+            let kept = is_kept(keep, number);
+            keep_image(
+                entry,
+                &self.found,
+                dev,
+                kept,
+                most,
+                reads.as_slice(),
+                &mut image,
+            )?;
+            keep_reads(entry, &self.bytes, dev, &mut reads)?;
+            if is_pending(entry, k, choice) {
+                number += 1;
+            }
+        }
+        Ok(image)
+    }
+}
+
+/// After how many calls a device was settled last, where this is the call of that number.
+fn settled_after(entry: Entry, dev: Dev, now: usize, before: usize) -> usize
+    ensures { (bytes found : List ℕ) → result ≡ settled_from (effect_on entry.dev dev (effect_of entry.kind entry.at bytes found)) now before }
+{
+    match (entry.kind, entry.dev, dev) {
+        (Kind::Synced, Dev::Target, Dev::Target) => now,
+        (Kind::Synced, Dev::Journal, Dev::Journal) => now,
+        _ => before,
+    }
+}
+
+/// Whether the call behind so many is pending.
+fn is_pending(entry: Entry, k: usize, choice: Choice) -> bool
+    ensures { (bytes found : List ℕ) → result ≡ (changes (effect_of entry.kind entry.at bytes found) && nat_le (part_of entry.dev choice.target choice.journal) k) }
+{
+    let settled = match entry.dev {
+        Dev::Target => choice.target,
+        Dev::Journal => choice.journal,
+    };
+    match entry.kind {
+        Kind::Wrote => settled <= k,
+        Kind::Grew => settled <= k,
+        Kind::Synced => false,
+        Kind::Attached => false,
+        Kind::Rested => false,
+    }
+}
+
+/// Whether the pending call of a number is kept.
+fn is_kept(keep: &[bool], number: usize) -> bool
+    ensures { result ≡ slice_index_or keep.now number false }
+{
+    number < keep.len() && keep[number]
+}
+
+/// The greatest length of a growth so far, where the call is kept or not.
+fn grown_to(entry: Entry, kept: bool, most: u64) -> u64
+    ensures { (bytes found : List ℕ) → result ≡ grown_to (effect_of entry.kind entry.at bytes found) kept most }
+{
+    match entry.kind {
+        Kind::Grew => if kept { entry.at.max(most) } else { most },
+        Kind::Wrote => most,
+        Kind::Synced => most,
+        Kind::Attached => most,
+        Kind::Rested => most,
+    }
+}
+
+/// Whether a call is on a device.
+fn is_on(entry: Entry, dev: Dev) -> bool
+    ensures { (effect : Effect) → effect_on entry.dev dev effect ≡ (if result then effect else Rests) }
+{
+    match (entry.dev, dev) {
+        (Dev::Target, Dev::Target) => true,
+        (Dev::Target, Dev::Journal) => false,
+        (Dev::Journal, Dev::Target) => false,
+        (Dev::Journal, Dev::Journal) => true,
+    }
+}
+
+/// The image of a device after one call more.
+fn keep_image(
+    entry: Entry,
+    found: &[u8],
+    dev: Dev,
+    kept: bool,
+    most: u64,
+    reads: &[u8],
+    image: &mut Vec<u8>,
+) -> Result<(), NoMemory>
+    requires { IsWithin (length found.now) entry }
+    ensures { OnOk result ((bytes : List ℕ) → length bytes ≡ length found.now → image.new.items ≡ image_after kept most (effect_on entry.dev dev (call_of bytes found.now entry).effect) reads.now image.old.items) }
+{
+    if !is_on(entry, dev) {
+        return Ok(());
+    }
+    match entry.kind {
+        Kind::Wrote => {
+            if kept {
+                put_over(image, entry.at, &found[entry.from..entry.from + entry.len]);
+            }
+        }
+        Kind::Grew => lengthen(image, entry.at.min(most))?,
+        Kind::Synced => {
+            image.clear();
+            image.extend_from_slice(reads)?;
+        }
+        Kind::Attached => {}
+        Kind::Rested => {}
+    }
+    Ok(())
+}
+
+/// What a device reads after one call more.
+fn keep_reads(entry: Entry, bytes: &[u8], dev: Dev, reads: &mut Vec<u8>) -> Result<(), NoMemory>
+    requires { IsWithin (length bytes.now) entry }
+    ensures { OnOk result ((found : List ℕ) → reads.new.items ≡ read_after (effect_on entry.dev dev (call_of bytes.now found entry).effect) reads.old.items) }
+{
+    if !is_on(entry, dev) {
+        return Ok(());
+    }
+    match entry.kind {
+        Kind::Wrote => put_over(reads, entry.at, &bytes[entry.from..entry.from + entry.len]),
+        Kind::Grew => lengthen(reads, entry.at)?,
+        Kind::Synced => {}
+        Kind::Attached => {}
+        Kind::Rested => {}
+    }
+    Ok(())
+}
+
+/// Puts bytes over those from an offset on, and none past the end.
+#[tactic(auto, using(crate::proofs::RecordLemmas::over_past, crate::proofs::RecordLemmas::over_cut, crate::proofs::RecordLemmas::over_inside))]
+fn put_over(old: &mut [u8], at: u64, bytes: &[u8])
+    ensures { old.new ≡ over old.old at bytes.now }
+{
+    if at >= old.len() as u64 {
+        return;
+    }
+    let at = at as usize;
+    let room = old.len() - at;
+    if bytes.len() <= room {
+        overwrite(old, at, bytes);
+    } else {
+        overwrite(old, at, &bytes[..room]);
+    }
+}
+
+/// Writes bytes at an offset, all of them inside.
+fn overwrite(old: &mut [u8], at: usize, bytes: &[u8])
+    requires { at + length bytes.now ≤ length old.old }
+    ensures { old.new ≡ written old.old at bytes.now }
+{
+    let end = at + bytes.len();
+    old[at..end].copy_from_slice(bytes);
+}
+
+/// Lengthens by zeros.
+fn lengthen(bytes: &mut Vec<u8>, len: u64) -> Result<(), NoMemory>
+    ensures { OnOk result (bytes.new.items ≡ lengthened bytes.old.items len) }
+{
+    let more = len.saturating_sub(bytes.len() as u64);
+    for _ in 0..more {
+        bytes.push(0)?;
+    }
+    Ok(())
 }
 
 /// Puts an entry and its bytes behind the others, where the room for them was taken.
