@@ -8,4 +8,5 @@ pub mod MeterLemmas
 mod ReadLemmas
 pub mod RecordLemmas
 mod ReplayLemmas
+mod TearLemmas
 mod WriteLemmas

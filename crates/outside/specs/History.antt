@@ -1,5 +1,5 @@
 -- The calls on a bench in memory, and what the devices read and may leave after them.
-use Rattle.std.specs.Prelude.{◌≡◌, ◌⊎◌, ℕ, zero, suc, ◌+◌, ◌-◌, ◌≤◌, List, [], ◌∷◌, ◌++◌, length, replicate, Bool, if◌then◌else◌, Option, None, Some}
+use Rattle.std.specs.Prelude.{◌≡◌, ◌⊎◌, ℕ, zero, suc, ◌+◌, ◌-◌, ◌≤◌, List, [], ◌∷◌, ◌++◌, length, map, replicate, Bool, if◌then◌else◌, Option, None, Some}
 use Rattle.outside.specs.declared.bench.Dev.{Dev}
 use Rattle.outside.specs.declared.bench.Dev.TheVariants.{Target, Journal}
 use Rattle.outside.specs.Disk.{Disk, Torn, Grown, After}
@@ -102,3 +102,20 @@ Rested dev bytes old new = (new ≡ old) ⊎ (new ≡ logged old (record { dev =
 -- the work of a bench: the room that is used, or one more than the room, where a call would have passed it
 abbrev pub work_of : Bool → Log → ℕ
 work_of past log = if past then log.room + 1 else log.used
+
+-- a call as the devices read it, whatever a stop finds of what it wrote
+abbrev pub effect_as_read : Effect → Effect
+effect_as_read (Writes at bytes found) = Writes at bytes bytes
+effect_as_read (Grows len) = Grows len
+effect_as_read Settles = Settles
+effect_as_read (Names name) = Names name
+effect_as_read Rests = Rests
+
+abbrev pub as_read : Call → Call
+as_read call = record { dev = call.dev; effect = effect_as_read call.effect }
+
+-- the records differ in what a stop finds of writes alone
+pub record ReadsAlike (old new : Log) : Type 0 where
+  pub calls : map as_read new.calls ≡ map as_read old.calls
+  pub used : new.used ≡ old.used
+  pub room : new.room ≡ old.room

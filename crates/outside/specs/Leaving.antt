@@ -1,5 +1,5 @@
 -- What a stop leaves of a bench in memory: which pending calls there are, and the image where some of them are kept.
-use Rattle.std.specs.Prelude.{ℕ, ◌+◌, List, [], ◌∷◌, length, take, max, min, nat_le, Bool, true, false, ◌&&◌, if◌then◌else◌, slice_index_or}
+use Rattle.std.specs.Prelude.{ℕ, ◌+◌, List, [], ◌∷◌, length, take, max, min, nat_le, nat_lt, Bool, true, false, ◌&&◌, ◌||◌, if◌then◌else◌, slice_index_or}
 use Rattle.outside.specs.declared.bench.Dev.{Dev}
 use Rattle.outside.specs.declared.bench.Dev.TheVariants.{Target, Journal}
 use Rattle.outside.specs.History.{Effect, Writes, Grows, Settles, Names, Rests, Call, effect_on, over, lengthened, reads_of}
@@ -37,6 +37,19 @@ is_pending settled call calls = changes call.effect && nat_le (of_device call.de
 abbrev pub pending_of : Both ℕ → List Call → ℕ
 pending_of settled [] = 0
 pending_of settled (call ∷ calls) = if is_pending settled call calls then pending_of settled calls + 1 else pending_of settled calls
+
+-- whether a call wrote at a place
+abbrev pub wrote_at : Effect → ℕ → Bool
+wrote_at (Writes from bytes found) at = nat_le from at && nat_lt at (from + length bytes)
+wrote_at (Grows len) at = false
+wrote_at Settles at = false
+wrote_at (Names name) at = false
+wrote_at Rests at = false
+
+-- whether a place of a device lies in a pending write
+abbrev pub is_pending_at : Both ℕ → Dev → ℕ → List Call → Bool
+is_pending_at settled dev at [] = false
+is_pending_at settled dev at (call ∷ calls) = (is_pending settled call calls && wrote_at (effect_on call.dev dev call.effect) at) || is_pending_at settled dev at calls
 
 -- whether the pending call behind these is kept: it is the one of a number that says so
 abbrev pub is_kept : Both ℕ → List Bool → List Call → Bool

@@ -1,10 +1,10 @@
 -- Which calls on a bench in memory fail, and what it has recorded.
-use Rattle.std.specs.Prelude.{ℕ, List, [], Bool, Option, None, Some, true}
+use Rattle.std.specs.Prelude.{ℕ, List, [], Bool, Option, None, Some, true, IsTrue}
 use Rattle.outside.specs.declared.mem_bench.MemBench.{MemBench}
 use Rattle.outside.specs.declared.bench.Dev.{Dev}
 use Rattle.outside.specs.Calls.{Calls}
 use Rattle.outside.specs.History.{Log}
-use Rattle.outside.specs.Leaving.{kept_image, pending_of, settled_both}
+use Rattle.outside.specs.Leaving.{is_pending_at, kept_image, pending_of, settled_both}
 use Rattle.outside.specs.Meter.{Both, Meter}
 
 -- the number of the next call, and those of the calls that fail
@@ -45,3 +45,7 @@ kept_of story keep dev = kept_image story.first keep story.log.calls dev
 -- how many calls are pending
 abbrev pub pending_in : Story → ℕ
 pending_in story = pending_of (settled_both story.log.calls) story.log.calls
+
+-- a place of a device lies in a pending write
+abbrev pub IsPendingAt : Story → Dev → ℕ → Type 0
+IsPendingAt story dev at = IsTrue (is_pending_at (settled_both story.log.calls) dev at story.log.calls)

@@ -1,8 +1,8 @@
 ghost use Rattle.std.specs.Prelude.{◌≡◌, ◌≤◌, ◌+◌, ◌++◌, IfOk, OnOk, OnErr, Some, None, false, length, take, drop, replicate, vec_len, vec_capacity};
 ghost use Rattle.base_fields.specs.Fields.{written};
 ghost use Rattle.outside.specs.declared.bench.Dev.TheVariants.{Target, Journal};
-ghost use Rattle.outside.specs.Disk.{IsPair, other_of, part_of};
-ghost use Rattle.outside.specs.History.{disk_of, reads_of};
+ghost use Rattle.outside.specs.Disk.{IsPair, StillLeaves, other_of, part_of};
+ghost use Rattle.outside.specs.History.{ReadsAlike, disk_of, reads_of};
 ghost use Rattle.outside.specs.HistoryLaws.{counts_now_of, only_now_of, reads_leave_of, within_room};
 ghost use Rattle.outside.specs.Leaving.{settled_of};
 ghost use Rattle.outside.specs.MemBench.{meter_of};
@@ -29,7 +29,7 @@ pub struct MemBench {
 
 impl MemBench {
     ghost use Rattle.outside.specs.Calls.{listing, unused};
-    ghost use Rattle.outside.specs.MemBenchCalls.{calls_of, kept_of, passing_of, pending_in, story_of, untouched, uncounted};
+    ghost use Rattle.outside.specs.MemBenchCalls.{IsPendingAt, calls_of, kept_of, passing_of, pending_in, story_of, untouched, uncounted};
 
     /// The two devices with these bytes, all of them on the disk, both attached without a name. All memory that
     /// later calls need is taken here: `room` bytes for the record of the calls and as many for their bytes, and
@@ -83,6 +83,21 @@ impl MemBench {
         ensures { result ≡ pending_in (story_of self.now) }
     {
         self.log.pending(self.settled())
+    }
+
+    /// Puts a byte into the last pending write that covers a place, as a stop finds it. What the bench reads stays.
+    #[tactic(auto, using(crate::proofs::TearLemmas::alike_reads, crate::proofs::TearLemmas::alike_names, crate::proofs::TearLemmas::alike_stays, crate::proofs::TearLemmas::alike_images))]
+    pub fn tear(&mut self, dev: Dev, at: u64, byte: u8)
+        requires { IsPendingAt (story_of self.old) dev at }
+        ensures reads { (each : Dev) → (⟦<MemBench as Bench>⟧.disk self.new).reads each ≡ (⟦<MemBench as Bench>⟧.disk self.old).reads each }
+        ensures stays { (each : Dev) → StillLeaves each (⟦<MemBench as Bench>⟧.disk self.old) (⟦<MemBench as Bench>⟧.disk self.new) }
+        ensures no_more { (each : Dev) → StillLeaves each (⟦<MemBench as Bench>⟧.disk self.new) (⟦<MemBench as Bench>⟧.disk self.old) }
+        ensures alike { ReadsAlike (story_of self.old).log (story_of self.new).log }
+        ensures same_calls { calls_of self.new ≡ calls_of self.old }
+        ensures same_passing { passing_of self.new ≡ passing_of self.old }
+    {
+        let settled = self.settled();
+        self.log.tear(dev, at, byte, settled);
     }
 
     /// A bench on one image of each device. The pending write number i, counted from 0 over both devices in the

@@ -1,7 +1,7 @@
-ghost use Rattle.std.specs.Prelude.{◌≡◌, ℕ, if◌then◌else◌, List, OnOk, ◌&&◌, false, nat_le, slice_index_or, ◌+◌, ◌≤◌, ◌↔◌, IsTrue, ◌++◌, ◌∷◌, [], IfOk, length, vec_len, vec_capacity};
+ghost use Rattle.std.specs.Prelude.{◌≡◌, ℕ, if◌then◌else◌, List, OnOk, ◌&&◌, false, nat_le, slice_index_or, ◌+◌, ◌<◌, ◌≤◌, ◌↔◌, IsTrue, ◌++◌, ◌∷◌, [], All, IfOk, IfSome, length, vec_len, vec_capacity};
 ghost use Rattle.base_fields.specs.Fields.{written};
 ghost use Rattle.outside.specs.Disk.{part_of};
-ghost use Rattle.outside.specs.History.{Effect, Rests, effect_on, lengthened, logged, over, read_after};
+ghost use Rattle.outside.specs.History.{Effect, ReadsAlike, Rests, effect_on, lengthened, logged, over, read_after};
 ghost use Rattle.outside.specs.Leaving.{changes, grown_to, image_after, settled_from};
 ghost use Rattle.outside.specs.Record.{IsWithin, call_of, effect_of};
 
@@ -165,6 +165,18 @@ impl Record {
         most
     }
 
+    /// Puts a byte into the last pending write that covers a place of a device, as a stop finds it.
+    #[tactic(auto, using(crate::proofs::TearLemmas::found_alike))]
+    pub fn tear(&mut self, dev: Dev, at: u64, byte: u8, choice: Choice)
+        ensures { ReadsAlike self.old self.new }
+    {
+        let size = self.found.len();
+        match place_of(&self.entries, size, dev, at, choice) {
+            None => {}
+            Some(i) => self.found[i] = byte,
+        }
+    }
+
     /// The image of a device, from what it had at first.
     pub fn image(
         &self,
@@ -247,6 +259,30 @@ fn grown_to(entry: Entry, kept: bool, most: u64) -> u64
         Kind::Attached => most,
         Kind::Rested => most,
     }
+}
+
+/// Where the byte at a place of a device stands among those of all calls, in the last pending write that covers it.
+fn place_of(entries: &[Entry], size: usize, dev: Dev, at: u64, choice: Choice) -> Option<usize>
+    requires { All (IsWithin size) entries.now }
+    ensures { IfSome result (λ i. i < size) }
+{
+    for k in (0..entries.len()).rev() {
+        let entry = entries[k];
+        if is_pending(entry, k, choice) && covers(entry, dev, at) {
+            return Some(entry.from + (at - entry.at) as usize);
+        }
+    }
+    None
+}
+
+/// Whether a call wrote at a place of a device.
+fn covers(entry: Entry, dev: Dev, at: u64) -> bool
+    ensures { IsTrue result → (entry.at ≤ at) × (at < entry.at + entry.len) }
+{
+    entry.kind == Kind::Wrote
+        && is_on(entry, dev)
+        && entry.at <= at
+        && at - entry.at < entry.len as u64
 }
 
 /// Whether a call is on a device.
