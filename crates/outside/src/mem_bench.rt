@@ -1,4 +1,4 @@
-ghost use Rattle.std.specs.Prelude.{◌≡◌, ◌≤◌, ◌+◌, ◌++◌, IfOk, OnOk, OnErr, Some, None, false, length, take, drop, replicate, vec_len, vec_capacity};
+ghost use Rattle.std.specs.Prelude.{◌≡◌, ◌↔◌, IsTrue, ◌≤◌, ◌+◌, ◌++◌, IfOk, OnOk, OnErr, Some, None, false, length, take, drop, replicate, vec_len, vec_capacity};
 ghost use Rattle.base_fields.specs.Fields.{written};
 ghost use Rattle.outside.specs.declared.bench.Dev.TheVariants.{Target, Journal};
 ghost use Rattle.outside.specs.Disk.{IsPair, StillLeaves, other_of, part_of};
@@ -85,6 +85,13 @@ impl MemBench {
         self.log.pending(self.settled())
     }
 
+    /// Whether a place of a device lies in a pending write.
+    pub fn is_pending_at(&self, dev: Dev, at: u64) -> bool
+        ensures { IsTrue result ↔ IsPendingAt (story_of self.now) dev at }
+    {
+        self.log.is_pending_at(dev, at, self.settled())
+    }
+
     /// Puts a byte into the last pending write that covers a place, as a stop finds it. What the bench reads stays.
     #[tactic(auto, using(crate::proofs::TearLemmas::alike_reads, crate::proofs::TearLemmas::alike_names, crate::proofs::TearLemmas::alike_stays, crate::proofs::TearLemmas::alike_images))]
     pub fn tear(&mut self, dev: Dev, at: u64, byte: u8)
@@ -93,6 +100,7 @@ impl MemBench {
         ensures stays { (each : Dev) → StillLeaves each (⟦<MemBench as Bench>⟧.disk self.old) (⟦<MemBench as Bench>⟧.disk self.new) }
         ensures no_more { (each : Dev) → StillLeaves each (⟦<MemBench as Bench>⟧.disk self.new) (⟦<MemBench as Bench>⟧.disk self.old) }
         ensures alike { ReadsAlike (story_of self.old).log (story_of self.new).log }
+        ensures same_meter { ⟦<MemBench as Bench>⟧.meter self.new ≡ ⟦<MemBench as Bench>⟧.meter self.old }
         ensures same_calls { calls_of self.new ≡ calls_of self.old }
         ensures same_passing { passing_of self.new ≡ passing_of self.old }
     {

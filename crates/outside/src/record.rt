@@ -2,7 +2,7 @@ ghost use Rattle.std.specs.Prelude.{◌≡◌, ℕ, if◌then◌else◌, List, O
 ghost use Rattle.base_fields.specs.Fields.{written};
 ghost use Rattle.outside.specs.Disk.{part_of};
 ghost use Rattle.outside.specs.History.{Effect, ReadsAlike, Rests, effect_on, lengthened, logged, over, read_after};
-ghost use Rattle.outside.specs.Leaving.{changes, grown_to, image_after, settled_from};
+ghost use Rattle.outside.specs.Leaving.{changes, grown_to, image_after, settled_from, wrote_at};
 ghost use Rattle.outside.specs.Record.{IsWithin, call_of, effect_of};
 
 use crate::Dev;
@@ -123,7 +123,7 @@ pub struct Choice {
 
 impl Record {
     ghost use Rattle.outside.specs.History.{reads_of};
-    ghost use Rattle.outside.specs.Leaving.{settled_of, pending_of, kept_length, image_of};
+    ghost use Rattle.outside.specs.Leaving.{is_pending_at, settled_of, pending_of, kept_length, image_of};
 
     /// How many calls there were up to the last that put all of a device on its disk.
     pub fn settled(&self, dev: Dev) -> usize
@@ -163,6 +163,20 @@ impl Record {
             }
         }
         most
+    }
+
+    /// Whether a place of a device lies in a pending write.
+    pub fn is_pending_at(&self, dev: Dev, at: u64, choice: Choice) -> bool
+        ensures { result ≡ is_pending_at (record { target = choice.target; journal = choice.journal }) dev at self.now.calls }
+    {
+        let mut any = false;
+        for k in 0..self.entries.len() {
+            let entry = self.entries[k];
+            if is_pending(entry, k, choice) && wrote_at(entry, &self.bytes, dev, at) {
+                any = true;
+            }
+        }
+        any
     }
 
     /// Puts a byte into the last pending write that covers a place of a device, as a stop finds it.
@@ -276,6 +290,23 @@ fn place_of(entries: &[Entry], size: usize, dev: Dev, at: u64, choice: Choice) -
 }
 
 /// Whether a call wrote at a place of a device.
+fn wrote_at(entry: Entry, bytes: &[u8], dev: Dev, at: u64) -> bool
+    requires { IsWithin (length bytes.now) entry }
+    ensures { (found : List ℕ) → result ≡ wrote_at (effect_on entry.dev dev (call_of bytes.now found entry).effect) at }
+{
+    if !is_on(entry, dev) {
+        return false;
+    }
+    match entry.kind {
+        Kind::Wrote => entry.at <= at && at - entry.at < entry.len as u64,
+        Kind::Grew => false,
+        Kind::Synced => false,
+        Kind::Attached => false,
+        Kind::Rested => false,
+    }
+}
+
+/// Whether a call wrote at a place of a device, and where.
 fn covers(entry: Entry, dev: Dev, at: u64) -> bool
     ensures { IsTrue result → (entry.at ≤ at) × (at < entry.at + entry.len) }
 {
