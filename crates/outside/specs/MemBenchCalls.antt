@@ -1,10 +1,12 @@
 -- Which calls on a bench in memory fail, and what it has recorded.
-use Rattle.std.specs.Prelude.{ℕ, List, [], Bool, Option, None, Some, true, IsTrue}
+use Rattle.std.specs.Prelude.{◌≡◌, ◌≢◌, ◌+◌, ◌≤◌, Contains, ℕ, List, [], Bool, Option, None, Some, true, IsTrue}
 use Rattle.outside.specs.declared.mem_bench.MemBench.{MemBench}
 use Rattle.outside.specs.declared.bench.Dev.{Dev}
 use Rattle.outside.specs.Calls.{Calls}
-use Rattle.outside.specs.History.{Log}
+use Rattle.outside.specs.Disk.{Disk}
+use Rattle.outside.specs.History.{Log, disk_of}
 use Rattle.outside.specs.Leaving.{is_pending_at, kept_image, pending_of, settled_both}
+use Rattle.outside.specs.MemBench.{meter_of}
 use Rattle.outside.specs.Meter.{Both, Meter}
 
 -- the number of the next call, and those of the calls that fail
@@ -49,3 +51,14 @@ pending_in story = pending_of (settled_both story.log.calls) story.log.calls
 -- a place of a device lies in a pending write
 abbrev pub IsPendingAt : Story → Dev → ℕ → Type 0
 IsPendingAt story dev at = IsTrue (is_pending_at (settled_both story.log.calls) dev at story.log.calls)
+
+-- what the devices read and may leave, and what is counted
+abbrev pub disk_in : MemBench → Disk
+disk_in bench = disk_of (story_of bench).first (story_of bench).log.calls
+
+abbrev pub meter_in : MemBench → Meter
+meter_in bench = meter_of bench.gate bench.log
+
+-- a call with so many bytes passes: its number isn't listed, the calls that pass are not used up, and it has room
+abbrev pub Passes : MemBench → ℕ → Type 0
+Passes bench bytes = (¬ Contains (calls_of bench).failing (calls_of bench).next) × (passing_of bench ≢ Some 0) × ((meter_in bench).work + 32 + bytes ≤ (story_of bench).log.room)
