@@ -1,11 +1,10 @@
 -- What one call more on a bench in memory did to its devices.
-use Rattle.std.proofs.Common.{◌≡◌, ◌⊎◌, ℕ, ◌+◌, ◌≤◌, List, [], ◌∷◌, ◌++◌, length, replicate, take, drop, zero, suc, inl, inr, refl, ap, sym, subst, ◌∙◌, zero-add, arith}
+use Rattle.std.proofs.Common.{◌≡◌, ◌⊎◌, ℕ, ◌+◌, ◌≤◌, List, [], ◌∷◌, length, zero, suc, inl, inr, refl, ap, sym, subst, ◌∙◌, zero-add, arith}
 use Rattle.std.proofs.Math.Path.{fun_ext}
-use Rattle.std.proofs.lemmas.Grind.{common_steps}
 use Rattle.base_fields.specs.Fields.{written}
 use Rattle.outside.specs.declared.bench.Dev.{Dev}
 use Rattle.outside.specs.declared.bench.Dev.TheVariants.{Target, Journal}
-use Rattle.outside.specs.Disk.{Disk, IsPair, IsSettled, StillLeaves, Torn, Grown, After, Elapses, Looked, Joins, Changes, Steps, Touches, Grows as GrowsTo, other_of, part_of}
+use Rattle.outside.specs.Disk.{Disk, IsPair, IsSettled, StillLeaves, Torn, Grown, After, Elapses, Looked, Steps, Touches, Grows as GrowsTo, other_of}
 use Rattle.outside.specs.History.{Effect, Writes, Grows, Settles, Names, Rests, Call, Log, logged, effect_on, over, lengthened, read_after, images_after, reads_of, images_of, left_of, disk_of}
 use Rattle.outside.specs.HistoryLaws.{over_torn, lengthened_grown, reads_leave_of}
 use Rattle.outside.specs.Meter.{Both}

@@ -1,11 +1,11 @@
 -- What is left by a stop is among the images.
-use Rattle.std.proofs.Common.{◌≡◌, ℕ, ◌+◌, ◌<◌, ◌≤◌, List, [], ◌∷◌, length, take, max, min, slice_index, Bool, true, false, refl, sym, subst, arith}
+use Rattle.std.proofs.Common.{◌≡◌, ℕ, ◌≤◌, List, [], ◌∷◌, length, take, min, Bool, true, false, refl, sym, subst, arith}
 use Rattle.std.proofs.lemmas.Grind.{common_steps}
 use Rattle.outside.specs.declared.bench.Dev.{Dev}
 use Rattle.outside.specs.declared.bench.Dev.TheVariants.{Target, Journal}
 use Rattle.outside.specs.Disk.{Torn, Grown}
 use Rattle.outside.specs.History.{Effect, Writes, Grows, Settles, Names, Rests, Call, effect_on, over, lengthened, images_after, reads_of, images_of}
-use Rattle.outside.specs.HistoryLaws.{over_torn, zeros_behind, reads_leave_of}
+use Rattle.outside.specs.HistoryLaws.{over_torn, zeros_behind}
 use Rattle.outside.specs.Leaving.{image_after, image_of, is_kept, kept_image, kept_length, settled_both}
 use Rattle.outside.specs.MemBenchCalls.{Story, untouched}
 use Rattle.outside.specs.Meter.{Both}

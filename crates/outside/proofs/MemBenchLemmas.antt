@@ -1,13 +1,13 @@
 -- What one call more on a bench in memory is in the words of a bench.
-use Rattle.std.proofs.Common.{◌≡◌, ◌⊎◌, ℕ, ◌+◌, ◌≤◌, List, ◌∷◌, length, refl, ap, sym, subst, ◌∙◌, inl, inr, true, false, Some, arith}
+use Rattle.std.proofs.Common.{◌≡◌, ℕ, ◌+◌, ◌≤◌, List, ◌∷◌, length, refl, ap, sym, subst, ◌∙◌, inl, inr, false, Some, arith}
 use Rattle.base_fields.specs.Fields.{written}
 use Rattle.outside.specs.declared.bench.Dev.{Dev}
 use Rattle.outside.specs.declared.bench.Dev.TheVariants.{Target, Journal}
 use Rattle.outside.specs.declared.gate.Gate.{Gate}
 use Rattle.outside.specs.Disk.{Looked, StillLeaves, Touches, Grown, Grows as GrowsTo, other_of, part_of}
-use Rattle.outside.specs.History.{Effect, Writes, Grows, Settles, Names, Rests, Call, Log, Rested, logged, effect_on, named, name_after, reads_of, disk_of, work_of}
+use Rattle.outside.specs.History.{Effect, Writes, Grows, Settles, Names, Rests, Call, Log, Rested, logged, named, name_after, reads_of, disk_of, work_of}
 use Rattle.outside.specs.MemBench.{meter_of}
-use Rattle.outside.specs.Meter.{Both, Meter, Attaches, Bills, SameNames, of_device}
+use Rattle.outside.specs.Meter.{Both, Attaches, Bills, SameNames, of_device}
 use Rattle.outside.proofs.DiskLemmas.{looked_steps, looked_touches}
 use Rattle.outside.proofs.HistoryLemmas.{rests_looked, rests_stay, rests_same, unlogged_looked, unlogged_stay, writes_reads, logged_other}
 

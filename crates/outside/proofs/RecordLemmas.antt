@@ -5,7 +5,7 @@ use Rattle.std.proofs.lemmas.List.{take-append-le, drop-append-le, drop_at, take
 use Rattle.std.proofs.lemmas.List.Elements.{All-head, All-tail}
 use Rattle.outside.specs.declared.record.Entry.{Entry}
 use Rattle.base_fields.specs.Fields.{written}
-use Rattle.outside.specs.History.{Call, over}
+use Rattle.outside.specs.History.{over}
 use Rattle.outside.proofs.HistoryLemmas.{over_written}
 use Rattle.outside.specs.Record.{effect_of, call_of, calls_of, IsWithin}
 

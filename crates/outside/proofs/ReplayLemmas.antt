@@ -1,5 +1,5 @@
 -- One recorded call more that is replayed.
-use Rattle.std.proofs.Common.{◌≡◌, ℕ, ◌+◌, ◌<◌, List, [], ◌∷◌, Bool, length, take, get_or, ap, sym, ◌∙◌}
+use Rattle.std.proofs.Common.{◌≡◌, ℕ, ◌+◌, ◌<◌, List, [], ◌∷◌, Bool, length, take, get_or, ap, ◌∙◌}
 use Rattle.outside.specs.declared.bench.Dev.{Dev}
 use Rattle.outside.specs.declared.record.Entry.{Entry}
 use Rattle.outside.specs.History.{Call, effect_on, read_after, reads_of}

@@ -8,7 +8,7 @@ use Rattle.outside.specs.declared.record.Kind.{Kind}
 use Rattle.outside.specs.declared.record.Kind.TheVariants.{Wrote, Grew, Synced, Attached, Rested}
 use Rattle.outside.specs.Disk.{StillLeaves}
 use Rattle.outside.specs.History.{Effect, Writes, Grows, Settles, Names, Rests, Call, Log, ReadsAlike, as_read, disk_of, effect_as_read, effect_on, images_after, images_of, name_after, named, read_after, reads_of}
-use Rattle.outside.specs.Meter.{Both, of_device}
+use Rattle.outside.specs.Meter.{Both}
 use Rattle.outside.specs.Record.{call_of, calls_of, effect_of}
 
 read_same : (on dev : Dev) (effect : Effect) (old : List ℕ) → read_after (effect_on on dev (effect_as_read effect)) old ≡ read_after (effect_on on dev effect) old

@@ -1,10 +1,7 @@
 -- What holds of devices after calls.
-use Rattle.std.proofs.Common.{◌≡◌, ◌⊎◌, ℕ, zero, suc, ◌+◌, ◌-◌, ◌<◌, ◌≤◌, List, [], ◌∷◌, ◌++◌, length, max, replicate, slice_index, inl, inr, refl, ap, Bool, true, false, Some, arith}
+use Rattle.std.proofs.Common.{◌≡◌, ℕ, zero, suc, ◌+◌, ◌-◌, ◌<◌, ◌≤◌, List, [], ◌∷◌, ◌++◌, length, replicate, slice_index, inl, inr, refl, ap, Bool, true, false, Some, arith}
 use Rattle.std.proofs.lemmas.Grind.{common_steps}
-use Rattle.std.proofs.lemmas.List.{get_or_append_left}
-use Rattle.std.proofs.Math.Seq.{get_or-append_right}
 use Rattle.outside.specs.declared.bench.Dev.{Dev}
-use Rattle.outside.specs.declared.bench.Dev.TheVariants.{Target, Journal}
 use Rattle.outside.specs.Disk.{IsPair, Torn, Grown}
 use Rattle.outside.specs.History.{Effect, Writes, Grows, Settles, Names, Rests, Call, effect_on, over, lengthened, read_after, images_after, reads_of, images_of, left_of, disk_of, Log, work_of}
 use Rattle.outside.specs.Meter.{Both}

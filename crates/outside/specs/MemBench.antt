@@ -1,10 +1,9 @@
 -- What contracts see of a bench in memory.
-use Rattle.std.specs.Prelude.{◌≡◌, ℕ, ◌+◌, ◌≤◌, List, true, Some, vec_capacity, length, Vec}
-use Rattle.std.specs.Global.{Global}
+use Rattle.std.specs.Prelude.{true, Some}
 use Rattle.outside.specs.declared.bench.Dev.TheVariants.{Target, Journal}
 use Rattle.outside.specs.declared.gate.Gate.{Gate}
-use Rattle.outside.specs.History.{Log, reads_of, name_after, work_of}
-use Rattle.outside.specs.Meter.{Both, Meter}
+use Rattle.outside.specs.History.{Log, name_after, work_of}
+use Rattle.outside.specs.Meter.{Meter}
 
 -- what is counted of a bench in memory
 abbrev pub meter_of : Gate → Log → Meter

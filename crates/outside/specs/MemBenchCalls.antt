@@ -1,5 +1,5 @@
 -- Which calls on a bench in memory fail, and what it has recorded.
-use Rattle.std.specs.Prelude.{◌≡◌, ◌≢◌, ◌+◌, ◌≤◌, Contains, ℕ, List, [], Bool, Option, None, Some, true, IsTrue}
+use Rattle.std.specs.Prelude.{◌≢◌, ◌+◌, ◌≤◌, Contains, ℕ, List, [], Bool, Option, None, Some, true, IsTrue}
 use Rattle.outside.specs.declared.mem_bench.MemBench.{MemBench}
 use Rattle.outside.specs.declared.bench.Dev.{Dev}
 use Rattle.outside.specs.Calls.{Calls}

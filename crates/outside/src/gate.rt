@@ -74,8 +74,10 @@ impl Gate {
     /// Whether a call on a device with so many bytes passes. One that fails is counted, and its room is used.
     pub fn passes(&mut self, log: &mut Record, dev: Dev, bytes: usize) -> bool
         ensures exact { IsTrue result ↔ ((¬ Contains self.old.failures.failing self.old.failures.next)
-            × (self.old.passing ≢ Some 0) × (self.old.past ≡ false)
-            × (log.old.used + 32 + bytes ≤ log.old.room)) }
+            × (self.old.passing ≢ Some 0)
+            × (work_of self.old.past log.old + 32 + bytes ≤ log.old.room)) }
+        ensures fits { IsTrue result → log.old.used + 32 + bytes ≤ log.old.room }
+        ensures was_not_past { IsTrue result → self.old.past ≡ false }
         ensures same_log { IsTrue result → log.new ≡ log.old }
         ensures same_faults { IsTrue result → self.new.faults ≡ self.old.faults }
         ensures not_past { IsTrue result → self.new.past ≡ false }
@@ -88,6 +90,7 @@ impl Gate {
         ensures same_room { log.new.room ≡ log.old.room }
         ensures used { log.old.used ≤ log.new.used }
         ensures same_sure { self.new.sure ≡ self.old.sure }
+        ensures same_failing { self.new.failures.failing ≡ self.old.failures.failing }
         ensures next { self.new.failures.next ≡ more self.old.failures.next }
     {
         let listed = self.failures.fails();

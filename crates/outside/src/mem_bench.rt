@@ -1,4 +1,4 @@
-ghost use Rattle.std.specs.Prelude.{◌≡◌, ◌↔◌, IsTrue, ◌≤◌, ◌+◌, ◌++◌, IfOk, OnOk, OnErr, Some, None, false, length, take, drop, replicate, vec_len, vec_capacity};
+ghost use Rattle.std.specs.Prelude.{◌≡◌, ℕ, ◌-◌, ◌↔◌, List, IsOk, IsTrue, ◌≤◌, ◌+◌, ◌++◌, IfOk, OnOk, OnErr, Some, None, false, length, take, drop, replicate, vec_len, vec_capacity};
 ghost use Rattle.base_fields.specs.Fields.{written};
 ghost use Rattle.outside.specs.declared.bench.Dev.TheVariants.{Target, Journal};
 ghost use Rattle.outside.specs.Disk.{IsPair, StillLeaves, other_of, part_of};
@@ -147,6 +147,13 @@ impl MemBench {
 }
 
 impl Bench for MemBench {
+    ghost use Rattle.outside.specs.Calls.{more};
+    ghost use Rattle.outside.specs.Counts.{Rose};
+    ghost use Rattle.outside.specs.Disk.{After, Grown, Grows, IsSettled, Looked, StillLeaves, Torn, Touches, other_of};
+    ghost use Rattle.outside.specs.History.{Rested};
+    ghost use Rattle.outside.specs.MemBenchCalls.{Passes, calls_of, disk_in, meter_in, story_of};
+    ghost use Rattle.outside.specs.Meter.{Attaches, Bills, HasNoOther, IsAttached, SameNames, of_device};
+
     ghost told = { Unit {0} };
 
     ghost disk = { λ m. disk_of (record { target = m.first_target.items; journal = m.first_journal.items }) m.log.calls };
@@ -161,7 +168,19 @@ impl Bench for MemBench {
 
     ghost fails_past_room = { λ m sure room is le. within_room m.gate.past m.log room (m.gate.faults ≡ record { target = 0; journal = 0 }) is le (m.gate.no_fault sure) };
 
-    fn attach(&mut self, dev: Dev, name: &str) -> Result<(), BenchErr> {
+    fn attach(&mut self, dev: Dev, name: &str) -> Result<(), BenchErr>
+        requires { HasNoOther (meter_in self.old) dev name.now }
+        ensures looked { Looked (disk_in self.old) (disk_in self.new) }
+        ensures stays { (each : Dev) → StillLeaves each (disk_in self.old) (disk_in self.new) }
+        ensures bill { Bills dev (length name.now) (meter_in self.old) (meter_in self.new) }
+        ensures failed { OnErr result (Rose (of_device dev (meter_in self.old).faults) (of_device dev (meter_in self.new).faults)) }
+        ensures ok { OnOk result (Attaches dev name.now (meter_in self.old) (meter_in self.new)) }
+        ensures err { OnErr result (SameNames (meter_in self.old) (meter_in self.new)) }
+        ensures rested { OnErr result (Rested dev (length name.now) (story_of self.old).log (story_of self.new).log) }
+        ensures passes { IsOk result ↔ Passes self.old (length name.now) }
+        ensures next { (calls_of self.new).next ≡ more (calls_of self.old).next }
+        ensures same_failing { (calls_of self.new).failing ≡ (calls_of self.old).failing }
+    {
         if !self.gate.passes(&mut self.log, dev, name.len()) {
             return Err(BenchErr);
         }
@@ -169,7 +188,19 @@ impl Bench for MemBench {
         Ok(())
     }
 
-    fn length(&mut self, dev: Dev) -> Result<u64, BenchErr> {
+    fn length(&mut self, dev: Dev) -> Result<u64, BenchErr>
+        requires { IsAttached (meter_in self.old) dev }
+        ensures exact { IfOk result (λ n. n ≡ length ((disk_in self.old).reads dev)) }
+        ensures looked { Looked (disk_in self.old) (disk_in self.new) }
+        ensures stays { (each : Dev) → StillLeaves each (disk_in self.old) (disk_in self.new) }
+        ensures bill { Bills dev (0) (meter_in self.old) (meter_in self.new) }
+        ensures same_names { SameNames (meter_in self.old) (meter_in self.new) }
+        ensures failed { OnErr result (Rose (of_device dev (meter_in self.old).faults) (of_device dev (meter_in self.new).faults)) }
+        ensures rested { OnErr result (Rested dev (0) (story_of self.old).log (story_of self.new).log) }
+        ensures passes { IsOk result ↔ Passes self.old (0) }
+        ensures next { (calls_of self.new).next ≡ more (calls_of self.old).next }
+        ensures same_failing { (calls_of self.new).failing ≡ (calls_of self.old).failing }
+    {
         if !self.gate.passes(&mut self.log, dev, 0) {
             return Err(BenchErr);
         }
@@ -180,7 +211,20 @@ impl Bench for MemBench {
         }
     }
 
-    fn read_at(&mut self, dev: Dev, at: u64, buf: &mut [u8]) -> Result<(), BenchErr> {
+    fn read_at(&mut self, dev: Dev, at: u64, buf: &mut [u8]) -> Result<(), BenchErr>
+        requires attached { IsAttached (meter_in self.old) dev }
+        requires inside { at + length buf.old ≤ length ((disk_in self.old).reads dev) }
+        ensures there { OnOk result (buf.new ≡ take (length buf.old) (drop at ((disk_in self.old).reads dev))) }
+        ensures looked { Looked (disk_in self.old) (disk_in self.new) }
+        ensures stays { (each : Dev) → StillLeaves each (disk_in self.old) (disk_in self.new) }
+        ensures bill { Bills dev (0) (meter_in self.old) (meter_in self.new) }
+        ensures same_names { SameNames (meter_in self.old) (meter_in self.new) }
+        ensures failed { OnErr result (Rose (of_device dev (meter_in self.old).faults) (of_device dev (meter_in self.new).faults)) }
+        ensures rested { OnErr result (Rested dev (0) (story_of self.old).log (story_of self.new).log) }
+        ensures passes { IsOk result ↔ Passes self.old (0) }
+        ensures next { (calls_of self.new).next ≡ more (calls_of self.old).next }
+        ensures same_failing { (calls_of self.new).failing ≡ (calls_of self.old).failing }
+    {
         if !self.gate.passes(&mut self.log, dev, 0) {
             return Err(BenchErr);
         }
@@ -192,7 +236,20 @@ impl Bench for MemBench {
         Ok(())
     }
 
-    fn write_at(&mut self, dev: Dev, at: u64, bytes: &[u8]) -> Result<(), BenchErr> {
+    fn write_at(&mut self, dev: Dev, at: u64, bytes: &[u8]) -> Result<(), BenchErr>
+        requires attached { IsAttached (meter_in self.old) dev }
+        requires inside { at + length bytes.now ≤ length ((disk_in self.old).reads dev) }
+        ensures wrote { OnOk result ((disk_in self.new).reads dev ≡ written ((disk_in self.old).reads dev) at bytes.now) }
+        ensures touches { Touches dev at (length bytes.now) (disk_in self.old) (disk_in self.new) }
+        ensures torn { OnOk result ((image : List ℕ) → After (Torn at (length bytes.now)) ((disk_in self.old).leaves dev) image → (disk_in self.new).leaves dev image) }
+        ensures bill { Bills dev (length bytes.now) (meter_in self.old) (meter_in self.new) }
+        ensures same_names { SameNames (meter_in self.old) (meter_in self.new) }
+        ensures failed { OnErr result (Rose (of_device dev (meter_in self.old).faults) (of_device dev (meter_in self.new).faults)) }
+        ensures rested { OnErr result (Rested dev (length bytes.now) (story_of self.old).log (story_of self.new).log) }
+        ensures passes { IsOk result ↔ Passes self.old (length bytes.now) }
+        ensures next { (calls_of self.new).next ≡ more (calls_of self.old).next }
+        ensures same_failing { (calls_of self.new).failing ≡ (calls_of self.old).failing }
+    {
         if !self.gate.passes(&mut self.log, dev, bytes.len()) {
             return Err(BenchErr);
         }
@@ -201,7 +258,20 @@ impl Bench for MemBench {
         Ok(())
     }
 
-    fn grow(&mut self, len: u64) -> Result<(), BenchErr> {
+    fn grow(&mut self, len: u64) -> Result<(), BenchErr>
+        requires attached { IsAttached (meter_in self.old) Dev.Journal }
+        requires longer { length ((disk_in self.old).reads Dev.Journal) ≤ len }
+        ensures grew { OnOk result ((disk_in self.new).reads Dev.Journal ≡ (disk_in self.old).reads Dev.Journal ++ replicate (len - length ((disk_in self.old).reads Dev.Journal)) 0) }
+        ensures grows { Grows len (disk_in self.old) (disk_in self.new) }
+        ensures between { OnOk result ((image : List ℕ) → After (Grown len) ((disk_in self.old).leaves Dev.Journal) image → (disk_in self.new).leaves Dev.Journal image) }
+        ensures bill { Bills Dev.Journal (len - length ((disk_in self.old).reads Dev.Journal)) (meter_in self.old) (meter_in self.new) }
+        ensures same_names { SameNames (meter_in self.old) (meter_in self.new) }
+        ensures failed { OnErr result (Rose (of_device Dev.Journal (meter_in self.old).faults) (of_device Dev.Journal (meter_in self.new).faults)) }
+        ensures rested { OnErr result (Rested Dev.Journal (len - length ((disk_in self.old).reads Dev.Journal)) (story_of self.old).log (story_of self.new).log) }
+        ensures passes { IsOk result ↔ Passes self.old (len - length ((disk_in self.old).reads Dev.Journal)) }
+        ensures next { (calls_of self.new).next ≡ more (calls_of self.old).next }
+        ensures same_failing { (calls_of self.new).failing ≡ (calls_of self.old).failing }
+    {
         let more = len as usize - self.journal.len();
         if !self.gate.passes(&mut self.log, Dev::Journal, more) {
             return Err(BenchErr);
@@ -211,7 +281,20 @@ impl Bench for MemBench {
         Ok(())
     }
 
-    fn sync(&mut self, dev: Dev) -> Result<(), BenchErr> {
+    fn sync(&mut self, dev: Dev) -> Result<(), BenchErr>
+        requires { IsAttached (meter_in self.old) dev }
+        ensures settled { OnOk result (IsSettled (disk_in self.new) dev) }
+        ensures looked { Looked (disk_in self.old) (disk_in self.new) }
+        ensures other_stays { StillLeaves (other_of dev) (disk_in self.old) (disk_in self.new) }
+        ensures pending { OnErr result (StillLeaves dev (disk_in self.old) (disk_in self.new)) }
+        ensures bill { Bills dev (0) (meter_in self.old) (meter_in self.new) }
+        ensures same_names { SameNames (meter_in self.old) (meter_in self.new) }
+        ensures failed { OnErr result (Rose (of_device dev (meter_in self.old).faults) (of_device dev (meter_in self.new).faults)) }
+        ensures rested { OnErr result (Rested dev (0) (story_of self.old).log (story_of self.new).log) }
+        ensures passes { IsOk result ↔ Passes self.old (0) }
+        ensures next { (calls_of self.new).next ≡ more (calls_of self.old).next }
+        ensures same_failing { (calls_of self.new).failing ≡ (calls_of self.old).failing }
+    {
         if !self.gate.passes(&mut self.log, dev, 0) {
             return Err(BenchErr);
         }

@@ -1,7 +1,6 @@
 use Rattle.std.proofs.Common.{◌≡◌, ◌<◌, length, get_or, rules, arith, sym, ap, ◌∙◌, List, ℕ, Bool, false}
-use Rattle.std.proofs.lemmas.Grind.{common_steps}
 use Rattle.outside.specs.History.{Effect, effect_on, read_after}
-use Rattle.outside.specs.Leaving.{image_after, is_kept}
+use Rattle.outside.specs.Leaving.{image_after}
 use Rattle.outside.specs.Record.{call_of}
 use Rattle.outside.proofs.ReplayLemmas.{reads_next, image_next}
 use Rattle.outside.proofs.RecordLemmas.{calls_next, calls_count}
