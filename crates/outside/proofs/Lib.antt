@@ -1,4 +1,12 @@
 -- lemmas
+pub mod DiskLemmas
+pub mod HistoryLemmas
+pub mod LeavingLemmas
 mod LineLemmas
+mod MemBenchLemmas
+pub mod MeterLemmas
 mod ReadLemmas
+pub mod RecordLemmas
+mod ReplayLemmas
+mod TearLemmas
 mod WriteLemmas

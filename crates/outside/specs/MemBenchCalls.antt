@@ -1,0 +1,64 @@
+-- Which calls on a bench in memory fail, and what it has recorded.
+use Rattle.std.specs.Prelude.{◌≢◌, ◌+◌, ◌≤◌, Contains, ℕ, List, [], Bool, Option, None, Some, true, IsTrue}
+use Rattle.outside.specs.declared.mem_bench.MemBench.{MemBench}
+use Rattle.outside.specs.declared.bench.Dev.{Dev}
+use Rattle.outside.specs.Calls.{Calls}
+use Rattle.outside.specs.Disk.{Disk}
+use Rattle.outside.specs.History.{Log, disk_of}
+use Rattle.outside.specs.Leaving.{is_pending_at, kept_image, pending_of, settled_both}
+use Rattle.outside.specs.MemBench.{meter_of}
+use Rattle.outside.specs.Meter.{Both, Meter}
+
+-- the number of the next call, and those of the calls that fail
+abbrev pub calls_of : MemBench → Calls
+calls_of bench = bench.gate.failures
+
+-- how many more calls pass, where that was said
+abbrev pub passing_of : MemBench → Option ℕ
+passing_of bench = bench.gate.passing
+
+-- what both devices had at first, and the calls since, which say what they read and may leave
+pub record Story : Type 0 where
+  pub first : Both (List ℕ)
+  pub log : Log
+
+abbrev pub story_of : MemBench → Story
+story_of bench = record { first = record { target = bench.first_target.items; journal = bench.first_journal.items }; log = bench.log }
+
+-- the story of two devices that no call has met
+abbrev pub untouched : List ℕ → List ℕ → ℕ → Story
+untouched target journal room = record { first = record { target = target; journal = journal }; log = record { calls = []; used = 0; room = room } }
+
+-- what is counted before any call
+abbrev pub uncounted : ℕ → Meter
+uncounted room = record {
+  faults = record { target = 0; journal = 0 };
+  work = 0;
+  attached = record { target = true; journal = true };
+  name = record { target = None; journal = None };
+  room = Some room;
+  sure = true;
+}
+
+-- the image of a device where the pending calls are kept whose number says so
+abbrev pub kept_of : Story → List Bool → Dev → List ℕ
+kept_of story keep dev = kept_image story.first keep story.log.calls dev
+
+-- how many calls are pending
+abbrev pub pending_in : Story → ℕ
+pending_in story = pending_of (settled_both story.log.calls) story.log.calls
+
+-- a place of a device lies in a pending write
+abbrev pub IsPendingAt : Story → Dev → ℕ → Type 0
+IsPendingAt story dev at = IsTrue (is_pending_at (settled_both story.log.calls) dev at story.log.calls)
+
+-- what the devices read and may leave, and what is counted
+abbrev pub disk_in : MemBench → Disk
+disk_in bench = disk_of (story_of bench).first (story_of bench).log.calls
+
+abbrev pub meter_in : MemBench → Meter
+meter_in bench = meter_of bench.gate bench.log
+
+-- a call with so many bytes passes: its number isn't listed, the calls that pass are not used up, and it has room
+abbrev pub Passes : MemBench → ℕ → Type 0
+Passes bench bytes = (¬ Contains (calls_of bench).failing (calls_of bench).next) × (passing_of bench ≢ Some 0) × ((meter_in bench).work + 32 + bytes ≤ (story_of bench).log.room)

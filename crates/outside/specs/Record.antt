@@ -1,0 +1,37 @@
+-- How the calls on a bench in memory are recorded.
+use Rattle.std.specs.Prelude.{◌≡◌, ℕ, ◌+◌, ◌*◌, ◌≤◌, List, All, length, map, reverse, take, drop, Vec, vec_capacity}
+use Rattle.std.specs.Global.{Global}
+use Rattle.outside.specs.declared.record.Entry.{Entry}
+use Rattle.outside.specs.declared.record.Kind.{Kind}
+use Rattle.outside.specs.declared.record.Kind.TheVariants.{Wrote, Grew, Synced, Attached, Rested}
+use Rattle.outside.specs.History.{Effect, Writes, Grows, Settles, Names, Rests, Call}
+
+-- what a call of a kind did, at a place or to a length, with these bytes, of which a stop finds those
+abbrev pub effect_of : Kind → ℕ → List ℕ → List ℕ → Effect
+effect_of Wrote at bytes found = Writes at bytes found
+effect_of Grew at bytes found = Grows at
+effect_of Synced at bytes found = Settles
+effect_of Attached at bytes found = Names bytes
+effect_of Rested at bytes found = Rests
+
+-- the call of an entry, whose bytes stand among those of all calls
+abbrev pub call_of : List ℕ → List ℕ → Entry → Call
+call_of bytes found entry = record { dev = entry.dev; effect = effect_of entry.kind entry.at (take entry.len (drop entry.from bytes)) (take entry.len (drop entry.from found)) }
+
+-- the calls of all entries, the latest first
+abbrev pub calls_of : List ℕ → List ℕ → List Entry → List Call
+calls_of bytes found entries = reverse (map (call_of bytes found) entries)
+
+-- an entry's bytes are there
+abbrev pub IsWithin : ℕ → Entry → Type 0
+IsWithin size entry = entry.from + entry.len ≤ size
+
+-- the entries and their bytes fit the room that they have used, and all the room was taken
+pub record IsRecorded (entries : Vec Entry Global) (bytes found : Vec ℕ Global) (used room : ℕ) : Type 0 where
+  pub within : All (IsWithin (length bytes.items)) entries.items
+  pub found_too : length found.items ≡ length bytes.items
+  pub fits : 32 * length entries.items + length bytes.items ≤ used
+  pub used_room : used ≤ room
+  pub entries_room : room ≤ 32 * vec_capacity entries + 31
+  pub bytes_room : room ≤ vec_capacity bytes
+  pub found_room : room ≤ vec_capacity found
