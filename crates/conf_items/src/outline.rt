@@ -1,0 +1,196 @@
+//! The sections of a configuration, two deep: what stands deeper has no meaning, and is counted alone.
+ghost use Rattle.std.specs.Prelude.{◌≡◌, ◌+◌, ◌-◌, ◌<◌, ◌≤◌, ◌^◌, [], IfOk};
+ghost use Rattle.conf_items.specs.Outline.{closed, deeper_of, marker, opened, with_setting};
+
+use crate::{Given, Head, Setting, Word};
+use base_fields::{List, Name, NoMemory};
+use std::alloc::Global;
+
+/// A section in a section at the top. A section inside is a setting without a value.
+#[derive(Debug, Drop)]
+pub struct Subsection {
+    pub head: Head,
+    pub settings: List<Setting>,
+}
+
+/// A section at the top.
+#[derive(Debug, Drop)]
+pub struct TopSection {
+    pub head: Head,
+    /// Its items in order, a section inside as a setting without a value.
+    pub settings: List<Setting>,
+    /// The sections inside in order, one for each setting without a value.
+    pub sections: List<Subsection>,
+}
+
+/// An item at the top.
+#[derive(Debug, Drop)]
+pub enum TopItem {
+    Setting(Setting),
+    Section(TopSection),
+}
+
+/// The sections that are open.
+#[derive(Debug, Drop)]
+pub enum OpenSections {
+    Nothing,
+    Outer(TopSection),
+    /// A section in another, and how many are open inside of it.
+    Inner {
+        outer: TopSection,
+        inner: Subsection,
+        deeper: usize,
+    },
+}
+
+/// What all texts up to here say.
+#[derive(Debug, Drop)]
+pub struct Outline {
+    /// The items at the top that are whole.
+    pub items: List<TopItem>,
+    pub inside: OpenSections,
+}
+
+impl Word {
+    /// A copy. Takes memory.
+    pub fn copy(&self, alloc: Global) -> Result<Word, NoMemory>
+        ensures { IfOk result (λ word. word ≡ self.now) }
+    {
+        Ok(Word {
+            text: Name::of(alloc, self.text.text())?,
+            place: self.place,
+        })
+    }
+}
+
+impl Head {
+    // The setting that stands for a section in the list of items around it.
+    fn marker(&self, alloc: Global) -> Result<Setting, NoMemory>
+        ensures { IfOk result (λ setting. setting ≡ marker self.now) }
+    {
+        Ok(Setting {
+            key: self.word.copy(alloc)?,
+            given: Given::Section,
+        })
+    }
+}
+
+impl Outline {
+    /// Nothing was read yet. Takes no memory.
+    pub fn new(alloc: Global) -> Outline
+        ensures { result ≡ record { items = []; inside = OpenSections.Nothing } }
+    {
+        Outline {
+            items: List::new(alloc),
+            inside: OpenSections::Nothing,
+        }
+    }
+
+    /// With a setting in the innermost open section.
+    pub fn add(self, setting: Setting) -> Result<Outline, NoMemory>
+        ensures made { IfOk result (λ after. after ≡ with_setting self setting) }
+        ensures deeper { IfOk result (λ after. deeper_of after ≡ deeper_of self) }
+    {
+        let Outline { mut items, inside } = self;
+        let inside = match inside {
+            OpenSections::Nothing => {
+                items.push(TopItem::Setting(setting))?;
+                OpenSections::Nothing
+            }
+            OpenSections::Outer(mut outer) => {
+                outer.settings.push(setting)?;
+                OpenSections::Outer(outer)
+            }
+            OpenSections::Inner {
+                outer,
+                mut inner,
+                deeper,
+            } => {
+                if deeper == 0 {
+                    inner.settings.push(setting)?;
+                }
+                OpenSections::Inner {
+                    outer,
+                    inner,
+                    deeper,
+                }
+            }
+        };
+        Ok(Outline { items, inside })
+    }
+
+    /// With a section that begins in the innermost open one.
+    pub fn begin(self, alloc: Global, head: Head) -> Result<Outline, NoMemory>
+        requires { deeper_of self < 2 ^ 64 - 1 }
+        ensures made { IfOk result (λ after. after ≡ opened self head) }
+        ensures deeper { IfOk result (λ after. deeper_of after ≤ deeper_of self + 1) }
+    {
+        let Outline { items, inside } = self;
+        let inside = match inside {
+            OpenSections::Nothing => OpenSections::Outer(TopSection {
+                head,
+                settings: List::new(alloc),
+                sections: List::new(alloc),
+            }),
+            OpenSections::Outer(mut outer) => {
+                outer.settings.push(head.marker(alloc)?)?;
+                OpenSections::Inner {
+                    outer,
+                    inner: Subsection {
+                        head,
+                        settings: List::new(alloc),
+                    },
+                    deeper: 0,
+                }
+            }
+            OpenSections::Inner {
+                outer,
+                mut inner,
+                deeper,
+            } => {
+                if deeper == 0 {
+                    inner.settings.push(head.marker(alloc)?)?;
+                }
+                OpenSections::Inner {
+                    outer,
+                    inner,
+                    deeper: deeper + 1,
+                }
+            }
+        };
+        Ok(Outline { items, inside })
+    }
+
+    /// With the innermost open section ended.
+    pub fn end(self) -> Result<Outline, NoMemory>
+        ensures made { IfOk result (λ after. after ≡ closed self) }
+        ensures deeper { IfOk result (λ after. deeper_of after ≤ deeper_of self) }
+    {
+        let Outline { mut items, inside } = self;
+        let inside = match inside {
+            OpenSections::Nothing => OpenSections::Nothing,
+            OpenSections::Outer(outer) => {
+                items.push(TopItem::Section(outer))?;
+                OpenSections::Nothing
+            }
+            OpenSections::Inner {
+                mut outer,
+                inner,
+                deeper: 0,
+            } => {
+                outer.sections.push(inner)?;
+                OpenSections::Outer(outer)
+            }
+            OpenSections::Inner {
+                outer,
+                inner,
+                deeper,
+            } => OpenSections::Inner {
+                outer,
+                inner,
+                deeper: deeper - 1,
+            },
+        };
+        Ok(Outline { items, inside })
+    }
+}

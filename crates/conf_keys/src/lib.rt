@@ -1,0 +1,25 @@
+//! What the sections of a configuration say: the values of their keys, or the first place that has
+//! another key or value.
+#![tactic(auto)]
+
+mod checking;
+mod conf;
+mod partitions;
+mod sections;
+mod settings;
+mod values;
+
+pub use checking::SectionFault;
+pub use conf::{
+    Conf, ConfigKeys, FlashSection, HdKeys, Hole, ImageKeys, ImageSection, Kind, PartitionSection,
+    PlainKeys, SparseKeys, Vars,
+};
+pub use partitions::read_partition;
+pub use sections::{
+    check_device, image_head_fault, image_keys, item_fault, read_config, read_flash, read_hd,
+    read_plain, read_sparse,
+};
+pub use settings::Section;
+
+#[cfg(test)]
+mod tests;

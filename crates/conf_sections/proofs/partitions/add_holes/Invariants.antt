@@ -1,7 +1,0 @@
-use Rattle.std.proofs.Common.{◌≡◌, drop}
-use Rattle.std.specs.List.{fold}
-use Rattle.conf_sections.specs.Partitions.{with_hole}
-use Rattle.conf_sections.proofs.partitions.add_holes.Given as goal
-
-abbrev pub invariant-loop-word : goal.invariant-loop-word
-invariant-loop-word l = fold with_hole l.initial.holes l.words ≡ fold with_hole l.holes (drop l.word-index l.words)
