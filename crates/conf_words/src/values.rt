@@ -35,10 +35,7 @@ fn between(text: &str, quote: u8) -> &str
 fn copied(alloc: Global, text: &str) -> Result<Name, ValueFault>
     ensures { Answers (Ok text.now) result }
 {
-    match Name::of(alloc, text) {
-        Ok(name) => Ok(name),
-        Err(_) => Err(ValueFault::NoMemory),
-    }
+    Name::of(alloc, text).map_err(|_| ValueFault::NoMemory)
 }
 
 // The fault of a name that has no value.
@@ -52,12 +49,7 @@ fn unset(alloc: Global, name: &str) -> ValueFault
 }
 
 // The text with its variables replaced, and its escapes where they count.
-fn expanded(
-    alloc: Global,
-    vars: &Vars,
-    escapes: bool,
-    text: &str,
-) -> Result<Name, ValueFault>
+fn expanded(alloc: Global, vars: &Vars, escapes: bool, text: &str) -> Result<Name, ValueFault>
     ensures { Answers (expansion vars.now escapes text.now) result }
 {
     let mut value = String::new(alloc);
@@ -65,9 +57,7 @@ fn expanded(
     while !rest.is_empty() {
         let part = first_part(vars, escapes, rest);
         match part.value {
-            Ok(piece) => value
-                .push_str(piece)
-                .map_err(|_| ValueFault::NoMemory)?,
+            Ok(piece) => value.push_str(piece).map_err(|_| ValueFault::NoMemory)?,
             Err(name) => return Err(unset(alloc, name)),
         }
         rest = rest.split_at(part.len).1;
@@ -77,8 +67,12 @@ fn expanded(
 
 /// The text of a token of that kind, with its variables replaced by their values. Takes memory.
 ///
-/// A quoted text is what stands between its quotes: a single-quoted one as it is, a double-quoted one with
-/// its escapes and variables replaced. A bare word has its variables replaced, and a mark is its own text.
+/// A quoted text is what stands between its quotes: a single-quoted one as it is, a double-quoted
+/// one with its escapes and variables replaced. A bare word has its variables replaced, and a mark
+/// is its own text.
+///
+/// Refused is a text with a variable that has neither a value nor a text in its place: the first one
+/// such counts.
 pub fn value_of(
     alloc: Global,
     vars: &Vars,

@@ -1,4 +1,4 @@
-use Rattle.std.proofs.Common.{◌≡◌, ◌-◌, ◌∙◌, Some, arith, get_or, sym}
+use Rattle.std.proofs.Common.{◌≡◌, ◌-◌, Some, arith, get_or, sym}
 use Rattle.conf_lexer.specs.Text.{variable_len}
 use Rattle.conf_words.proofs.Cuts.{variable_closed}
 use Rattle.conf_words.proofs.parts.dollar_part.Goals as goal

@@ -1,4 +1,4 @@
-use Rattle.std.proofs.Common.{◌≡◌, ◌+◌, ◌-◌, ◌<◌, length, take, drop, get_or, arith, lit<, length-take, length-drop}
+use Rattle.std.proofs.Common.{arith}
 use Rattle.std.proofs.lemmas.Grind.{common_steps}
 use Rattle.conf_words.proofs.Cuts.{cut_after, cut_last}
 use Rattle.conf_words.proofs.values.between.Goals as goal

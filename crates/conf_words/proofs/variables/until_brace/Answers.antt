@@ -1,5 +1,4 @@
-use Rattle.std.proofs.Common.{ℕ, ◌<◌, ◌==◌, false, not, arith}
-use Rattle.std.proofs.lemmas.Bool.Decides.{nat_tests}
+use Rattle.std.proofs.Common.{◌==◌, not}
 use Rattle.conf_words.proofs.Cuts.{brace_low, cut_before}
 use Rattle.conf_words.proofs.variables.until_brace.Goals as goal
 
