@@ -1,6 +1,8 @@
 ghost use Rattle.std.specs.Prelude.{◌≡◌, ◌==◌, ◌≤◌, ◌<◌, ◌-◌, ◌||◌, IsCharBoundary, drop, length, not, slice_index};
+ghost use Rattle.std.specs.Prelude.{List as list_of};
 ghost use Rattle.std.specs.List.{prefix_len};
 ghost use Rattle.std.specs.Result.{result_copied};
+ghost use Rattle.base_fields.specs.declared.names.Pair.{Pair};
 ghost use Rattle.conf_words.specs.Values.{followed, part_len, part_value, parts_value};
 
 use crate::values::Vars;
@@ -51,11 +53,11 @@ fn dollar_part<'a>(vars: &'a Vars, escapes: bool, text: &'a str) -> Part<'a>
 }
 
 // The part that begins with a backslash: an escape, or the backslash itself.
-fn backslash_part<'a>(vars: &Vars, escapes: bool, text: &'a str) -> Part<'a>
+fn backslash_part(escapes: bool, text: &str) -> Part<'static>
     requires some { 0 < length text.now }
     requires backslash { slice_index text.now 0 ≡ 92 }
     ensures len { result.len ≡ part_len escapes text.now }
-    ensures value { result_copied result.value ≡ part_value vars.now escapes text.now }
+    ensures value { (vars : list_of Pair) → result_copied result.value ≡ part_value vars escapes text.now }
     ensures within { (0 < result.len) × (result.len ≤ length text.now) }
     ensures last { slice_index text.now (result.len - 1) < 128 }
 {
@@ -90,6 +92,6 @@ pub fn first_part<'a>(vars: &'a Vars, escapes: bool, text: &'a str) -> Part<'a>
     if bytes.starts_with(b"$") {
         dollar_part(vars, escapes, text)
     } else {
-        backslash_part(vars, escapes, text)
+        backslash_part(escapes, text)
     }
 }

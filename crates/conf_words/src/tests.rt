@@ -88,3 +88,19 @@ fn values_of_tokens(rt: HostRuntime) -> Result<(), NoMemory> {
     }
     Ok(())
 }
+
+#[test]
+fn a_long_word(rt: HostRuntime) -> Result<(), NoMemory> {
+    let vars = variables(rt.alloc())?;
+    let mut text = String::new(rt.alloc());
+    for _ in 0..100_000 {
+        text.push_str("$ä${A}")?;
+    }
+    let value = value_of(rt.alloc(), &vars, Word, text.as_str());
+    let len = match &value {
+        Ok(name) => name.text().len(),
+        Err(_) => 0,
+    };
+    assert_eq!(rt; len, 400_000);
+    Ok(())
+}

@@ -26,7 +26,7 @@ returns-then-starts_with-clause-boundary c = cut_after c.args.text.now c.dollar_
 pub returns-else-starts_with-clause-parts : goal.returns-else-starts_with-clause-parts
 returns-else-starts_with-clause-parts c =
     part_first c.args.vars.now c.args.escapes c.backslash_part.result.len c.args.text.now c.backslash_part.ensures.len c.backslash_part.ensures.within.0 c.backslash_part.ensures.within.1
-    ∙ ap (λ v. followed v (parts_value c.args.vars.now c.args.escapes 0 (drop c.backslash_part.result.len c.args.text.now))) (sym c.backslash_part.ensures.value)
+    ∙ ap (λ v. followed v (parts_value c.args.vars.now c.args.escapes 0 (drop c.backslash_part.result.len c.args.text.now))) (sym (c.backslash_part.ensures.value c.args.vars.now))
 
 pub returns-else-starts_with-clause-boundary : goal.returns-else-starts_with-clause-boundary
 returns-else-starts_with-clause-boundary c = cut_after c.args.text.now c.backslash_part.result.len c.utf8.text c.backslash_part.ensures.within.0 c.backslash_part.ensures.within.1 c.backslash_part.ensures.last
