@@ -71,8 +71,8 @@ fn expanded(alloc: Global, vars: &Vars, escapes: bool, text: &str) -> Result<Nam
 /// one with its escapes and variables replaced. A bare word has its variables replaced, and a mark
 /// is its own text.
 ///
-/// Refused is a text with a variable that has neither a value nor a text in its place: the first one
-/// such counts.
+/// Refused is a text with a variable that has neither a value nor a text in its place, by the name
+/// of the first such.
 pub fn value_of(
     alloc: Global,
     vars: &Vars,
