@@ -1,5 +1,5 @@
 -- What of a configuration is built today: nothing, or one disk image without a table, of one partition that is a file.
-use Rattle.std.specs.Prelude.{◌≢◌, ℕ, ◌&&◌, nat_eq, Bool, true, false, not, List, [], ◌∷◌, Option, Some, None, is_none, option_map, unwrap_or, if◌then◌else◌}
+use Rattle.std.specs.Prelude.{◌≢◌, ℕ, ◌&&◌, nat_eq, Bool, true, false, not, List, [], ◌∷◌, Option, Some, None, is_none, option_and_then, option_map, unwrap_or, if◌then◌else◌}
 use Rattle.std.specs.List.{list_any}
 use Rattle.std.specs.Str.{bytes_eq}
 use Rattle.base_fields.specs.declared.spans.TableKind.{TableKind}
@@ -16,11 +16,6 @@ use Rattle.image_jobs.specs.declared.task.OneImage.{OneImage}
 use Rattle.image_jobs.specs.declared.task.Task.{Task}
 use Rattle.image_jobs.specs.declared.task.Task.TheVariants.{Nothing, Image}
 use Rattle.image_jobs.specs.FullName.{full_name}
-
-infixl 10 ◌>>=◌
-abbrev pub ◌>>=◌ : {A B : Type 0} → Option A → (A → Option B) → Option B
-None >>= f = None
-(Some x) >>= f = f x
 
 abbrev pub is_bare : TableKind → Bool
 is_bare table.Bare = true
@@ -96,11 +91,12 @@ abbrev pub of_part : Request → Conf → ImageSection → PartitionSection → 
 of_part request conf image part source =
     provided (is_plain_part part && not (bytes_eq source image.name) && stands_alone conf.texts (named request conf image part source)) (named request conf image part source)
 
+-- the image of its only part, where that has an image
+abbrev pub of_only : Request → Conf → ImageSection → PartitionSection → Option OneImage
+of_only request conf image part = option_and_then (of_part request conf image part) part.image
+
 abbrev pub of_image : Request → Conf → ImageSection → Option OneImage
-of_image request conf image = if is_plain_image image then (do
-  part ← only_part image.parts
-  source ← part.image
-  of_part request conf image part source) else None
+of_image request conf image = if is_plain_image image then option_and_then (of_only request conf image) (only_part image.parts) else None
 
 abbrev pub of_images : Request → Conf → List ImageSection → Option Task
 of_images request conf [] = Some Nothing
