@@ -1,0 +1,47 @@
+-- The laws: the moves of a parser take exactly the texts of the grammar, and keep what their trees say.
+use Rattle.std.specs.Prelude.{◌≡◌, ℕ, List, [], ◌∷◌, ◌++◌, Option, Some, None}
+use Rattle.conf_items.specs.Grammar.{moved, start}
+use Rattle.conf_items.specs.declared.grammar.Next.TheVariants as next
+use Rattle.conf_items.specs.declared.grammar.Lexeme.{Lexeme}
+use Rattle.conf_items.specs.declared.grammar.Parser.{Parser}
+use Rattle.conf_items.specs.declared.grammar.Output.{Output}
+use Rattle.conf_items.specs.declared.grammar.Output.TheVariants as output
+use Rattle.conf_items.specs.declared.grammar.Move.{Move}
+use Rattle.conf_grammar.specs.Trees.{Items, NoItem, IncludeThen, OptionThen, SectionThen, Spells}
+
+-- what a tree makes whole, in the order of its text
+abbrev pub outputs_of : Items → List Output
+outputs_of NoItem = []
+outputs_of (IncludeThen name rest) = output.Include name ∷ outputs_of rest
+outputs_of (OptionThen setting rest) = output.Setting setting ∷ outputs_of rest
+outputs_of (SectionThen head inside rest) = output.Open head ∷ (outputs_of inside ++ output.Close ∷ outputs_of rest)
+
+-- what tokens made whole, one after another, and where they led
+pub record Ran : Type 0 where
+  pub outputs : List Output
+  pub parser : Parser
+
+abbrev pub joined : List Output → Option Ran → Option Ran
+joined outputs None = None
+joined outputs (Some ran) = Some (record { outputs = outputs ++ ran.outputs; parser = ran.parser })
+
+abbrev pub kept : Output → Option Ran → Option Ran
+kept output.Nothing ran = ran
+kept other ran = joined (other ∷ []) ran
+
+abbrev pub behind_move : Option Move → (Parser → Option Ran) → Option Ran
+behind_move None rest = None
+behind_move (Some move) rest = kept move.output (rest move.parser)
+
+-- the moves of these tokens; none where one of them can't stand
+abbrev pub run : Parser → List Lexeme → Option Ran
+run parser [] = Some (record { outputs = []; parser = parser })
+run parser (l ∷ ls) = behind_move (moved parser l) (λ next. run next ls)
+
+-- an item may stand next, in so many sections
+abbrev pub at_item : ℕ → Parser
+at_item depth = record { depth = depth; next = next.Item }
+
+-- each text that a tree spells can stand where an item may, and makes whole what its tree says
+abbrev pub TreeReads : Type 0
+TreeReads = (t : Items) (ls : List Lexeme) → Spells t ls → (depth : ℕ) (more : List Lexeme) → run (at_item depth) (ls ++ more) ≡ joined (outputs_of t) (run (at_item depth) more)
