@@ -1,2 +1,3 @@
 -- lemmas
 pub mod TextsRead
+pub mod Standing

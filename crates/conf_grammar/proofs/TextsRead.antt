@@ -76,7 +76,7 @@ reads_opening word (Some name) ls h depth more =
     let move : key_moved depth word h.0 ≡ goes depth (next.BehindName (record { word = word; name = Some name })) output.Nothing = by_value (key_moved depth word) (λ w. goes depth (next.BehindName (record { word = word; name = Some w })) output.Nothing) (λ w i. refl) (λ w. refl) name h.0 h.2 in
     ap (λ xs. run (at_item depth) (xs ++ more)) h.3 ∙ ap (λ m. behind_move m (λ p. run p (OpenBrace h.1 ∷ more))) move
 
-reads_close : (depth : ℕ) (more : List Lexeme) → run (at_item (depth + 1)) (CloseBrace ∷ more) ≡ joined (output.Close ∷ []) (run (at_item depth) more)
+pub reads_close : (depth : ℕ) (more : List Lexeme) → run (at_item (depth + 1)) (CloseBrace ∷ more) ≡ joined (output.Close ∷ []) (run (at_item depth) more)
 reads_close depth more =
     let test : nat_lt 0 (depth + 1) ≡ true = grind (arith, nat_tests) in
     let back : depth + 1 - 1 ≡ depth = omega arith in

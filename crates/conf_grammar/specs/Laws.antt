@@ -45,3 +45,11 @@ at_item depth = record { depth = depth; next = next.Item }
 -- each text that a tree spells can stand where an item may, and makes whole what its tree says
 abbrev pub TreeReads : Type 0
 TreeReads = (t : Items) (ls : List Lexeme) → Spells t ls → (depth : ℕ) (more : List Lexeme) → run (at_item depth) (ls ++ more) ≡ joined (outputs_of t) (run (at_item depth) more)
+
+-- where a token of a text can't stand, no tree spells a text that begins with it and the tokens in front of it
+abbrev pub FirstThatCannotStand : Type 0
+FirstThatCannotStand = (front : List Lexeme) → run start front ≡ None → (t : Items) (more : List Lexeme) → Spells t (front ++ more) → ⊥
+
+-- wherever a parser stands, there are tokens by which the text can end
+abbrev pub CanGoOn : Type 0
+CanGoOn = (parser : Parser) → (more : List Lexeme) × (outputs : List Output) × (run parser more ≡ Some (record { outputs = outputs; parser = start }))

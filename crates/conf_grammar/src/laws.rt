@@ -1,4 +1,4 @@
-ghost use Rattle.conf_grammar.specs.Laws.{TreeReads};
+ghost use Rattle.conf_grammar.specs.Laws.{CanGoOn, FirstThatCannotStand, TreeReads};
 
 /// Nothing is done: the contract is the law that each text of the grammar is read.
 ///
@@ -7,4 +7,20 @@ ghost use Rattle.conf_grammar.specs.Laws.{TreeReads};
 #[tactic(auto, using(crate::proofs::TextsRead::tree_reads))]
 pub fn tree_reads()
     ensures { TreeReads }
+{}
+
+/// Nothing is done: the contract is the law of the first token that can't stand where it does.
+///
+/// Where the tokens of a text can't be taken one after another, no tree spells a text that begins with them.
+#[tactic(auto, using(crate::proofs::Standing::first_that_cannot_stand))]
+pub fn first_that_cannot_stand()
+    ensures { FirstThatCannotStand }
+{}
+
+/// Nothing is done: the contract is the law that a text can be completed.
+///
+/// Wherever a parser stands, there are tokens by which the item at hand and the sections around it end.
+#[tactic(auto, using(crate::proofs::Standing::can_go_on))]
+pub fn texts_can_go_on()
+    ensures { CanGoOn }
 {}

@@ -14,4 +14,4 @@
 
 mod laws;
 
-pub use laws::tree_reads;
+pub use laws::{first_that_cannot_stand, texts_can_go_on, tree_reads};
