@@ -1,3 +1,5 @@
 -- lemmas
 pub mod TextsRead
 pub mod Standing
+pub mod FirstItem
+pub mod TreesFound

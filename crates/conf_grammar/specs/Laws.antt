@@ -1,6 +1,6 @@
 -- The laws: the moves of a parser take exactly the texts of the grammar, and keep what their trees say.
-use Rattle.std.specs.Prelude.{◌≡◌, ℕ, List, [], ◌∷◌, ◌++◌, Option, Some, None}
-use Rattle.conf_items.specs.Grammar.{moved, start}
+use Rattle.std.specs.Prelude.{◌≡◌, ℕ, true, List, [], ◌∷◌, ◌++◌, Option, Some, None}
+use Rattle.conf_items.specs.Grammar.{may_end, moved, start}
 use Rattle.conf_items.specs.declared.grammar.Next.TheVariants as next
 use Rattle.conf_items.specs.declared.grammar.Lexeme.{Lexeme}
 use Rattle.conf_items.specs.declared.grammar.Parser.{Parser}
@@ -53,3 +53,11 @@ FirstThatCannotStand = (front : List Lexeme) → run start front ≡ None → (t
 -- wherever a parser stands, there are tokens by which the text can end
 abbrev pub CanGoOn : Type 0
 CanGoOn = (parser : Parser) → (more : List Lexeme) × (outputs : List Output) × (run parser more ≡ Some (record { outputs = outputs; parser = start }))
+
+-- each text whose tokens can be taken to its end is spelled by a tree, which says what it makes whole
+abbrev pub ReadsTree : Type 0
+ReadsTree = (ls : List Lexeme) (ran : Ran) → run start ls ≡ Some ran → may_end ran.parser ≡ true → (t : Items) × (Spells t ls) × (ran.outputs ≡ outputs_of t)
+
+-- tokens that can be taken one after another begin a text that a tree spells
+abbrev pub BeginsTree : Type 0
+BeginsTree = (front : List Lexeme) (ran : Ran) → run start front ≡ Some ran → (more : List Lexeme) × (t : Items) × (Spells t (front ++ more))

@@ -1,4 +1,4 @@
-ghost use Rattle.conf_grammar.specs.Laws.{CanGoOn, FirstThatCannotStand, TreeReads};
+ghost use Rattle.conf_grammar.specs.Laws.{BeginsTree, CanGoOn, FirstThatCannotStand, ReadsTree, TreeReads};
 
 /// Nothing is done: the contract is the law that each text of the grammar is read.
 ///
@@ -23,4 +23,22 @@ pub fn first_that_cannot_stand()
 #[tactic(auto, using(crate::proofs::Standing::can_go_on))]
 pub fn texts_can_go_on()
     ensures { CanGoOn }
+{}
+
+/// Nothing is done: the contract is the law that each text which is read is one of the grammar.
+///
+/// Where the tokens of a text can be taken one after another and the text may end behind them, a tree spells them, and what they make
+/// whole is what the tree says.
+#[tactic(auto, using(crate::proofs::TreesFound::reads_tree))]
+pub fn reads_tree()
+    ensures { ReadsTree }
+{}
+
+/// Nothing is done: the contract is the law that no token is taken too late.
+///
+/// Where the tokens of a text up to a place can be taken one after another, a tree spells a text that begins with them: the first token
+/// that can't be taken is the first one with which no text of the grammar begins.
+#[tactic(auto, using(crate::proofs::TreesFound::begins_tree))]
+pub fn taken_tokens_begin_a_tree()
+    ensures { BeginsTree }
 {}
