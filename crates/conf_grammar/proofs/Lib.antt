@@ -3,3 +3,4 @@ pub mod TextsRead
 pub mod Standing
 pub mod FirstItem
 pub mod TreesFound
+pub mod OneTree

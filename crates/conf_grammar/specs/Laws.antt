@@ -61,3 +61,7 @@ ReadsTree = (ls : List Lexeme) (ran : Ran) → run start ls ≡ Some ran → may
 -- tokens that can be taken one after another begin a text that a tree spells
 abbrev pub BeginsTree : Type 0
 BeginsTree = (front : List Lexeme) (ran : Ran) → run start front ≡ Some ran → (more : List Lexeme) × (t : Items) × (Spells t (front ++ more))
+
+-- no text says two things
+abbrev pub OneTree : Type 0
+OneTree = (t u : Items) (ls : List Lexeme) → Spells t ls → Spells u ls → t ≡ u

@@ -1,4 +1,4 @@
-ghost use Rattle.conf_grammar.specs.Laws.{BeginsTree, CanGoOn, FirstThatCannotStand, ReadsTree, TreeReads};
+ghost use Rattle.conf_grammar.specs.Laws.{BeginsTree, CanGoOn, FirstThatCannotStand, OneTree, ReadsTree, TreeReads};
 
 /// Nothing is done: the contract is the law that each text of the grammar is read.
 ///
@@ -41,4 +41,12 @@ pub fn reads_tree()
 #[tactic(auto, using(crate::proofs::TreesFound::begins_tree))]
 pub fn taken_tokens_begin_a_tree()
     ensures { BeginsTree }
+{}
+
+/// Nothing is done: the contract is the law that the grammar isn't ambiguous.
+///
+/// Two trees that spell the same tokens are one.
+#[tactic(auto, using(crate::proofs::OneTree::one_tree))]
+pub fn texts_have_one_tree()
+    ensures { OneTree }
 {}

@@ -15,5 +15,6 @@
 mod laws;
 
 pub use laws::{
-    first_that_cannot_stand, reads_tree, taken_tokens_begin_a_tree, texts_can_go_on, tree_reads,
+    first_that_cannot_stand, reads_tree, taken_tokens_begin_a_tree, texts_can_go_on,
+    texts_have_one_tree, tree_reads,
 };
