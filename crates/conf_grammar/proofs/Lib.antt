@@ -4,3 +4,4 @@ pub mod Standing
 pub mod FirstItem
 pub mod TreesFound
 pub mod OneTree
+pub mod KindsStand

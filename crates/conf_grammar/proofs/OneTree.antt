@@ -6,7 +6,7 @@ use Rattle.conf_items.specs.declared.grammar.Lexeme.{Lexeme}
 use Rattle.conf_items.specs.declared.grammar.Output.{Output}
 use Rattle.conf_items.specs.declared.grammar.Output.TheVariants as output
 use Rattle.conf_grammar.proofs.FirstItem.{done}
-use Rattle.conf_grammar.proofs.Standing.{whole}
+use Rattle.conf_grammar.proofs.Standing.{text_reads}
 use Rattle.conf_grammar.specs.Trees.{Items, NoItem, IncludeThen, OptionThen, SectionThen, Spells}
 use Rattle.conf_grammar.specs.Laws.{OneTree, Ran, outputs_of, run}
 
@@ -73,5 +73,5 @@ outputs_same a b e = ap outputs_in e
 
 pub one_tree : OneTree
 one_tree t u ls h k =
-    let says : outputs_of t ≡ outputs_of u = outputs_same (outputs_of t) (outputs_of u) (sym (whole t ls h) ∙ whole u ls k) in
+    let says : outputs_of t ≡ outputs_of u = outputs_same (outputs_of t) (outputs_of u) (sym (text_reads t ls h) ∙ text_reads u ls k) in
     (same t u [] [] refl refl (append-nil (outputs_of t) ∙ says ∙ sym (append-nil (outputs_of u)))).0

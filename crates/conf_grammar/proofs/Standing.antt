@@ -13,7 +13,7 @@ use Rattle.conf_items.specs.declared.grammar.Output.TheVariants as output
 use Rattle.conf_items.specs.declared.grammar.Move.{Move}
 use Rattle.conf_grammar.proofs.TextsRead.{joined_none, joined_twice, reads_close, tree_reads}
 use Rattle.conf_grammar.specs.Trees.{Items, Spells}
-use Rattle.conf_grammar.specs.Laws.{CanGoOn, FirstThatCannotStand, Ran, at_item, behind_move, joined, kept, outputs_of, run}
+use Rattle.conf_grammar.specs.Laws.{BeginsNoTree, CanGoOn, Ran, TextReads, at_item, behind_move, joined, kept, outputs_of, run}
 
 -- tokens behind others
 pub goes_on : Option Ran → List Lexeme → Option Ran
@@ -48,13 +48,13 @@ unfolding goes_on
 on_some parser front more ran e = run_on parser front more ∙ ap (λ r. goes_on r more) e
 
 -- a text that a tree spells, alone
-pub whole : (t : Items) (ls : List Lexeme) → Spells t ls → run start ls ≡ Some (record { outputs = outputs_of t; parser = start })
-whole t ls h = ap (run start) (sym (append-nil ls)) ∙ tree_reads t ls h 0 [] ∙ ap (λ outputs. Some (record { outputs = outputs; parser = start })) (append-nil (outputs_of t))
+pub text_reads : TextReads
+text_reads t ls h = ap (run start) (sym (append-nil ls)) ∙ tree_reads t ls h 0 [] ∙ ap (λ outputs. Some (record { outputs = outputs; parser = start })) (append-nil (outputs_of t))
 
-pub first_that_cannot_stand : FirstThatCannotStand
-first_that_cannot_stand front e t more h =
+pub begins_no_tree : BeginsNoTree
+begins_no_tree front e t more h =
     let none : run start (front ++ more) ≡ None = on_none start front more e in
-    let some : run start (front ++ more) ≡ Some (record { outputs = outputs_of t; parser = start }) = whole t (front ++ more) h in
+    let some : run start (front ++ more) ≡ Some (record { outputs = outputs_of t; parser = start }) = text_reads t (front ++ more) h in
     cc
 
 -- the end of each open section

@@ -18,7 +18,7 @@ use Rattle.conf_items.specs.declared.grammar.Parser.{Parser}
 use Rattle.conf_items.specs.declared.grammar.Output.{Output}
 use Rattle.conf_items.specs.declared.grammar.Output.TheVariants as output
 use Rattle.conf_items.specs.declared.grammar.Move.{Move}
-use Rattle.conf_grammar.specs.Trees.{AreElements, Both, EndsList, IsGiven, IsHead, IsInclude, IsOption, IsValue, Items, NoItem, IncludeThen, OptionThen, OpensSection, SectionThen, Spells, word_of}
+use Rattle.conf_grammar.specs.Trees.{AreElements, Both, EndsList, IsGiven, IsHead, IsInclude, IsOption, IsValue, Items, NoItem, IncludeThen, OptionThen, OpensSection, SectionThen, Spells, as_value}
 use Rattle.conf_grammar.specs.Laws.{Ran, TreeReads, at_item, behind_move, joined, kept, outputs_of, run}
 
 -- a value moves as its word does, however it is spelled

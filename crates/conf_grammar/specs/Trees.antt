@@ -1,4 +1,5 @@
 -- What one text says as a tree, and the tokens that spell it, a definition for each rule of the grammar.
+-- A bare word that is spelled `include` begins an include and no other item; as a value it is a word like others.
 use Rattle.std.specs.Prelude.{◌≡◌, ◌⊎◌, Bool, true, false, List, [], ◌∷◌, ◌++◌, Option, Some, None}
 use Rattle.conf_items.specs.Grammar.{given_of}
 use Rattle.conf_items.specs.declared.items.Word.{Word}
@@ -19,13 +20,13 @@ pub data Items : Type 0 where
   SectionThen : Head → Items → Items → Items
 
 -- value = word | double | single
-abbrev pub word_of : Lexeme → Option Word
-word_of (Bare word include) = Some word
-word_of (Quoted word) = Some word
-word_of _ = None
+abbrev pub as_value : Lexeme → Option Word
+as_value (Bare word include) = Some word
+as_value (Quoted word) = Some word
+as_value _ = None
 
 abbrev pub IsValue : Word → Lexeme → Type 0
-IsValue word lexeme = word_of lexeme ≡ Some word
+IsValue word lexeme = as_value lexeme ≡ Some word
 
 -- include = "include" "(" value ")"
 abbrev pub IsInclude : Word → List Lexeme → Type 0
@@ -59,6 +60,10 @@ OpensSection word (Some name) ls = (value : Lexeme) × (place : Place) × (IsVal
 abbrev pub IsHead : Head → List Lexeme → Type 0
 IsHead head ls = OpensSection head.word head.name ls
 
+-- its end
+abbrev pub ClosesSection : List Lexeme → Type 0
+ClosesSection ls = ls ≡ CloseBrace ∷ []
+
 -- one thing, and then another one behind it
 abbrev pub Both : (List Lexeme → Type 0) → (List Lexeme → Type 0) → List Lexeme → Type 0
 Both First Second ls = (front : List Lexeme) × (behind : List Lexeme) × (First front) × (Second behind) × (ls ≡ front ++ behind)
@@ -68,4 +73,4 @@ abbrev pub Spells : Items → List Lexeme → Type 0
 Spells NoItem ls = ls ≡ []
 Spells (IncludeThen name rest) ls = Both (IsInclude name) (Spells rest) ls
 Spells (OptionThen setting rest) ls = Both (IsOption setting) (Spells rest) ls
-Spells (SectionThen head inside rest) ls = Both (IsHead head) (Both (Spells inside) (Both (λ end. end ≡ CloseBrace ∷ []) (Spells rest))) ls
+Spells (SectionThen head inside rest) ls = Both (IsHead head) (Both (Spells inside) (Both ClosesSection (Spells rest))) ls

@@ -1,5 +1,5 @@
-//! The grammar of a configuration's text: laws which show that the moves of `conf_items` take exactly the texts that it
-//! spells, and make whole what their trees say.
+//! The grammar of a configuration's text: laws which show that the moves of `conf_items` take exactly
+//! the texts that it spells, and make whole what their trees say.
 //!
 //! ```text
 //! text    = { item }
@@ -15,6 +15,6 @@
 mod laws;
 
 pub use laws::{
-    first_that_cannot_stand, reads_tree, taken_tokens_begin_a_tree, texts_can_go_on,
-    texts_have_one_tree, tree_reads,
+    first_that_cannot_stand, kinds_that_stand, taken_texts_are_trees, texts_can_go_on,
+    texts_have_one_tree, trees_are_taken,
 };
