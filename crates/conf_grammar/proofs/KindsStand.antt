@@ -1,8 +1,8 @@
 -- A token stands where its kind is allowed, whatever its value.
-use Rattle.std.proofs.Common.{◌≡◌, ℕ, ◌+◌, Bool, true, false, Option, Some, None, is_some, List, [], ◌∷◌, ◌++◌, refl, ap, sym, subst, ◌∙◌, append_assoc}
+use Rattle.std.proofs.Common.{◌≡◌, ℕ, Bool, true, false, Option, Some, None, is_some, [], ◌∷◌, ◌++◌, refl, ap, sym, subst, ◌∙◌, append_assoc}
 use Rattle.conf_lexer.specs.declared.tokens.TokenKind.{TokenKind}
 use Rattle.conf_lexer.specs.declared.tokens.TokenKind.TheVariants as kind
-use Rattle.conf_items.specs.Grammar.{allowed, moved, moved_from, some_lexeme, some_word, start}
+use Rattle.conf_items.specs.Grammar.{allowed, moved, moved_from, some_word, start}
 use Rattle.conf_items.specs.declared.items.Word.{Word}
 use Rattle.conf_items.specs.declared.items.Place.{Place}
 use Rattle.conf_items.specs.declared.grammar.Mark.TheVariants as mark
@@ -16,7 +16,7 @@ use Rattle.conf_items.specs.declared.grammar.Output.TheVariants as output
 use Rattle.conf_items.specs.declared.grammar.Parser.{Parser}
 use Rattle.conf_grammar.proofs.Standing.{begins_no_tree, on_some}
 use Rattle.conf_grammar.proofs.TreesFound.{begins_tree}
-use Rattle.conf_grammar.specs.Trees.{Items, Spells}
+use Rattle.conf_grammar.specs.Trees.{Spells}
 use Rattle.conf_grammar.specs.Laws.{AllowedStands, Ran, RefusedCannot, behind_move, is_of, joined, kept, run}
 
 bare_moves : (depth : ℕ) (next : Next) (word : Word) (include : Bool) → is_some (moved_from depth next (Bare word include)) ≡ is_some (moved_from depth next (Bare some_word false))
@@ -60,7 +60,6 @@ moves (Some move) e = kept_some move.output (record { outputs = []; parser = mov
 stays : (m : Option Move) → is_some m ≡ false → behind_move m (λ next. run next []) ≡ None
 stays None e = refl
 stays (Some move) e = never (sym e)
-
 
 pub allowed_stands : AllowedStands
 allowed_stands front ran k l e of allows =

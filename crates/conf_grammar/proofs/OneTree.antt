@@ -1,14 +1,11 @@
 -- Two trees that spell the same tokens are one.
-use Rattle.std.proofs.Common.{◌≡◌, ℕ, Bool, true, false, Option, Some, None, List, [], ◌∷◌, ◌++◌, refl, ap, sym, ◌∙◌, append_assoc, append-nil}
-use Rattle.conf_items.specs.Grammar.{start}
-use Rattle.conf_items.specs.declared.items.Head.{Head}
-use Rattle.conf_items.specs.declared.grammar.Lexeme.{Lexeme}
+use Rattle.std.proofs.Common.{◌≡◌, Bool, true, false, Option, Some, None, List, [], ◌∷◌, ◌++◌, refl, ap, sym, ◌∙◌, append_assoc, append-nil}
 use Rattle.conf_items.specs.declared.grammar.Output.{Output}
 use Rattle.conf_items.specs.declared.grammar.Output.TheVariants as output
 use Rattle.conf_grammar.proofs.FirstItem.{done}
 use Rattle.conf_grammar.proofs.Standing.{text_reads}
-use Rattle.conf_grammar.specs.Trees.{Items, NoItem, IncludeThen, OptionThen, SectionThen, Spells}
-use Rattle.conf_grammar.specs.Laws.{OneTree, Ran, outputs_of, run}
+use Rattle.conf_grammar.specs.Trees.{Items, NoItem, IncludeThen, OptionThen, SectionThen}
+use Rattle.conf_grammar.specs.Laws.{OneTree, Ran, outputs_of}
 
 -- nothing, or the end of a section and what is behind it
 abbrev stops : List Output → Bool

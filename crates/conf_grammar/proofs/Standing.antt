@@ -1,18 +1,16 @@
 -- Tokens that can't stand, and tokens by which a text can end.
-use Rattle.std.proofs.Common.{◌≡◌, ℕ, zero, suc, ◌+◌, Bool, true, false, Option, Some, None, List, [], ◌∷◌, ◌++◌, arith, refl, ap, sym, ◌∙◌, append_assoc, append-nil}
-use Rattle.conf_items.specs.Grammar.{list_setting, given_of, moved, some_word, start, with_word}
+use Rattle.std.proofs.Common.{◌≡◌, ℕ, zero, suc, ◌+◌, false, Option, Some, None, List, [], ◌∷◌, ◌++◌, arith, refl, ap, sym, ◌∙◌, append-nil}
+use Rattle.conf_items.specs.Grammar.{list_setting, given_of, moved, some_word, start}
 use Rattle.conf_items.specs.declared.items.Value.TheVariants.{One}
-use Rattle.conf_items.specs.declared.grammar.Mark.TheVariants as mark
 use Rattle.conf_items.specs.declared.grammar.Next.{Next}
 use Rattle.conf_items.specs.declared.grammar.Next.TheVariants as next
 use Rattle.conf_items.specs.declared.grammar.Lexeme.{Lexeme}
-use Rattle.conf_items.specs.declared.grammar.Lexeme.TheVariants.{Bare, OpenBrace, CloseBrace, OpenParen, CloseParen, Assign}
+use Rattle.conf_items.specs.declared.grammar.Lexeme.TheVariants.{Bare, OpenBrace, CloseBrace, OpenParen, CloseParen}
 use Rattle.conf_items.specs.declared.grammar.Parser.{Parser}
 use Rattle.conf_items.specs.declared.grammar.Output.{Output}
 use Rattle.conf_items.specs.declared.grammar.Output.TheVariants as output
 use Rattle.conf_items.specs.declared.grammar.Move.{Move}
 use Rattle.conf_grammar.proofs.TextsRead.{joined_none, joined_twice, reads_close, tree_reads}
-use Rattle.conf_grammar.specs.Trees.{Items, Spells}
 use Rattle.conf_grammar.specs.Laws.{BeginsNoTree, CanGoOn, Ran, TextReads, at_item, behind_move, joined, kept, outputs_of, run}
 
 -- tokens behind others

@@ -1,25 +1,24 @@
 -- A text that a tree spells is read as the tree says.
-use Rattle.std.proofs.Common.{◌≡◌, ℕ, ◌+◌, ◌-◌, ◌⊎◌, inl, inr, Bool, true, false, Option, Some, None, List, [], ◌∷◌, ◌++◌, nat_lt, if◌then◌else◌, arith, refl, ap, sym, ◌∙◌, append_assoc, append-nil}
+use Rattle.std.proofs.Common.{◌≡◌, ℕ, ◌+◌, ◌-◌, inl, inr, Bool, true, Option, Some, None, List, [], ◌∷◌, ◌++◌, nat_lt, if◌then◌else◌, arith, refl, ap, sym, ◌∙◌, append_assoc, append-nil}
 use Rattle.std.proofs.lemmas.Bool.Decides.{nat_tests}
-use Rattle.conf_items.specs.Grammar.{element_moved, given_of, goes, include_name_moved, item_moved, key_moved, list_setting, moved, name_moved, separator_moved, value_moved, with_word}
+use Rattle.conf_items.specs.Grammar.{element_moved, given_of, goes, include_name_moved, key_moved, list_setting, value_moved, with_word}
 use Rattle.conf_items.specs.declared.items.Word.{Word}
 use Rattle.conf_items.specs.declared.items.Value.{Value}
 use Rattle.conf_items.specs.declared.items.Value.TheVariants.{One, Many}
 use Rattle.conf_items.specs.declared.items.Setting.{Setting}
-use Rattle.conf_items.specs.declared.items.Head.{Head}
 use Rattle.conf_items.specs.declared.items.Place.{Place}
 use Rattle.conf_items.specs.declared.grammar.Mark.{Mark}
 use Rattle.conf_items.specs.declared.grammar.OpenList.{OpenList}
 use Rattle.conf_items.specs.declared.grammar.Next.{Next}
 use Rattle.conf_items.specs.declared.grammar.Next.TheVariants as next
 use Rattle.conf_items.specs.declared.grammar.Lexeme.{Lexeme}
-use Rattle.conf_items.specs.declared.grammar.Lexeme.TheVariants.{Bare, Quoted, OpenBrace, CloseBrace, OpenParen, CloseParen, Assign, Comma}
+use Rattle.conf_items.specs.declared.grammar.Lexeme.TheVariants.{Bare, Quoted, OpenBrace, CloseBrace, CloseParen}
 use Rattle.conf_items.specs.declared.grammar.Parser.{Parser}
 use Rattle.conf_items.specs.declared.grammar.Output.{Output}
 use Rattle.conf_items.specs.declared.grammar.Output.TheVariants as output
 use Rattle.conf_items.specs.declared.grammar.Move.{Move}
-use Rattle.conf_grammar.specs.Trees.{AreElements, Both, EndsList, IsGiven, IsHead, IsInclude, IsOption, IsValue, Items, NoItem, IncludeThen, OptionThen, OpensSection, SectionThen, Spells, as_value}
-use Rattle.conf_grammar.specs.Laws.{Ran, TreeReads, at_item, behind_move, joined, kept, outputs_of, run}
+use Rattle.conf_grammar.specs.Trees.{AreElements, Both, EndsList, IsGiven, IsHead, IsInclude, IsOption, IsValue, NoItem, IncludeThen, OptionThen, OpensSection, SectionThen, Spells}
+use Rattle.conf_grammar.specs.Laws.{Ran, TreeReads, at_item, behind_move, joined, outputs_of, run}
 
 -- a value moves as its word does, however it is spelled
 by_value : (f : Lexeme → Option Move) (g : Word → Option Move) → ((word : Word) (include : Bool) → f (Bare word include) ≡ g word) → ((word : Word) → f (Quoted word) ≡ g word) → (word : Word) (value : Lexeme) → IsValue word value → f value ≡ g word
@@ -34,9 +33,6 @@ joined_twice first second (Some ran) = ap (λ outputs. Some (record { outputs = 
 pub joined_none : (ran : Option Ran) → joined [] ran ≡ ran
 joined_none None = refl
 joined_none (Some ran) = refl
-
-state : ℕ → Next → Parser
-state depth next = record { depth = depth; next = next }
 
 -- include
 reads_include : (name : Word) (ls : List Lexeme) → IsInclude name ls → (depth : ℕ) (more : List Lexeme) → run (at_item depth) (ls ++ more) ≡ joined (output.Include name ∷ []) (run (at_item depth) more)

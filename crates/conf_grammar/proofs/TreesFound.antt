@@ -1,6 +1,5 @@
 -- Tokens that are read to their end are spelled by a tree.
-use Rattle.std.proofs.Common.{◌≡◌, ℕ, zero, suc, ◌+◌, ◌<◌, ◌≤◌, ◌&&◌, Bool, true, false, Option, Some, None, List, [], ◌∷◌, ◌++◌, length, arith, refl, ap, sym, ◌∙◌, append_assoc, length-append}
-use Rattle.std.specs.Prelude.{nat_eq}
+use Rattle.std.proofs.Common.{◌≡◌, ℕ, zero, suc, ◌+◌, ◌<◌, ◌≤◌, true, Some, List, [], ◌∷◌, ◌++◌, length, arith, refl, ap, sym, ◌∙◌, append_assoc, length-append}
 use Rattle.std.proofs.lemmas.Bool.Decides.{nat_tests}
 use Rattle.conf_items.specs.Grammar.{may_end, start}
 use Rattle.conf_items.specs.declared.items.Head.{Head}
@@ -8,13 +7,12 @@ use Rattle.conf_items.specs.declared.grammar.Next.{Next}
 use Rattle.conf_items.specs.declared.grammar.Next.TheVariants as next
 use Rattle.conf_items.specs.declared.grammar.Lexeme.{Lexeme}
 use Rattle.conf_items.specs.declared.grammar.Lexeme.TheVariants.{CloseBrace}
-use Rattle.conf_items.specs.declared.grammar.Parser.{Parser}
 use Rattle.conf_items.specs.declared.grammar.Output.{Output}
 use Rattle.conf_items.specs.declared.grammar.Output.TheVariants as output
 use Rattle.conf_grammar.proofs.FirstItem.{First, Ended, Closed, Including, Giving, Opening, done, first}
 use Rattle.conf_grammar.proofs.Standing.{can_go_on, on_some}
 use Rattle.conf_grammar.specs.Trees.{IsHead, Items, NoItem, IncludeThen, OptionThen, SectionThen, Spells}
-use Rattle.conf_grammar.specs.Laws.{BeginsTree, Ran, ReadsTree, at_item, joined, outputs_of, run}
+use Rattle.conf_grammar.specs.Laws.{BeginsTree, ReadsTree, at_item, joined, outputs_of, run}
 
 -- a tree spells the tokens, or those up to the end of the section around, behind which the reading goes on
 data Parts (depth : ℕ) (ls : List Lexeme) (outs : List Output) : Type 0 where
@@ -35,7 +33,6 @@ shorter l front behind ls e =
     let whole : length ls ≡ length (l ∷ (front ++ behind)) = ap length e in
     omega arith
 
-
 -- a section: its items, its end, and what is behind it
 sectioned : (bound : ℕ) → ((depth : ℕ) (ls : List Lexeme) (outs : List Output) → length ls < bound → run (at_item depth) ls ≡ done outs → Parts depth ls outs) → (head : Head) (depth : ℕ) (front ls behind : List Lexeme) (outs more : List Output) → IsHead head front → ls ≡ front ++ behind → outs ≡ output.Open head ∷ more → length behind < bound → Parts (depth + 1) behind more → Parts depth ls outs
 sectioned bound finds head depth front ls behind outs more h e f low (AllOf t g count same) = absurd (omega arith)
@@ -45,7 +42,6 @@ sectioned bound finds head depth front ls behind outs more h e f low (UpTo t ins
     let sum : length (inside ++ (CloseBrace ∷ after)) ≡ length inside + length (CloseBrace ∷ after) = length-append inside (CloseBrace ∷ after) in
     let whole : length behind ≡ length (inside ++ (CloseBrace ∷ after)) = ap length text in
     let rest : Parts depth after later = finds depth after later (omega arith) ran_on in
-    let end : List Lexeme = CloseBrace ∷ [] in
     let os : List Output = output.Open head ∷ (outputs_of t ++ (output.Close ∷ [])) in
     let says : (u : Items) → outputs_of (SectionThen head t u) ≡ os ++ outputs_of u = λ u. ap (λ xs. output.Open head ∷ xs) (sym (append_assoc (outputs_of t) (output.Close ∷ []) (outputs_of u))) in
     let spells : (u : Items) (xs : List Lexeme) → Spells u xs → Spells (SectionThen head t u) ((front ++ (inside ++ (CloseBrace ∷ []))) ++ xs) = λ u xs s. (front, inside ++ (CloseBrace ∷ xs), h, (inside, CloseBrace ∷ xs, g, (CloseBrace ∷ [], xs, refl, s, refl), refl), append_assoc front (inside ++ (CloseBrace ∷ [])) xs ∙ ap (λ ys. front ++ ys) (append_assoc inside (CloseBrace ∷ []) xs)) in

@@ -1,6 +1,6 @@
 -- What one text says as a tree, and the tokens that spell it, a definition for each rule of the grammar.
 -- A bare word that is spelled `include` begins an include and no other item; as a value it is a word like others.
-use Rattle.std.specs.Prelude.{◌≡◌, ◌⊎◌, Bool, true, false, List, [], ◌∷◌, ◌++◌, Option, Some, None}
+use Rattle.std.specs.Prelude.{◌≡◌, ◌⊎◌, true, false, List, [], ◌∷◌, ◌++◌, Option, Some, None}
 use Rattle.conf_items.specs.Grammar.{given_of}
 use Rattle.conf_items.specs.declared.items.Word.{Word}
 use Rattle.conf_items.specs.declared.items.Value.{Value}
