@@ -9,11 +9,9 @@ use Rattle.conf_items.specs.declared.items.Setting.{Setting}
 use Rattle.conf_items.specs.declared.items.Place.{Place}
 use Rattle.conf_items.specs.declared.grammar.Mark.{Mark}
 use Rattle.conf_items.specs.declared.grammar.OpenList.{OpenList}
-use Rattle.conf_items.specs.declared.grammar.Next.{Next}
 use Rattle.conf_items.specs.declared.grammar.Next.TheVariants as next
 use Rattle.conf_items.specs.declared.grammar.Lexeme.{Lexeme}
 use Rattle.conf_items.specs.declared.grammar.Lexeme.TheVariants.{Bare, Quoted, OpenBrace, CloseBrace, CloseParen}
-use Rattle.conf_items.specs.declared.grammar.Parser.{Parser}
 use Rattle.conf_items.specs.declared.grammar.Output.{Output}
 use Rattle.conf_items.specs.declared.grammar.Output.TheVariants as output
 use Rattle.conf_items.specs.declared.grammar.Move.{Move}
