@@ -3,6 +3,7 @@
 #![tactic(auto)]
 
 mod fault;
+mod texts;
 mod walking;
 
 pub use conf_words::Vars;
