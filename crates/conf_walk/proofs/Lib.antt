@@ -1,1 +1,4 @@
+pub mod Refusals
+pub mod RunLemmas
 pub mod TextLemmas
+pub mod TokenLemmas

@@ -3,6 +3,7 @@
 #![tactic(auto)]
 
 mod fault;
+mod running;
 mod steps;
 mod texts;
 mod walking;
