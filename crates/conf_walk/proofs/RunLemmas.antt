@@ -40,18 +40,3 @@ pub ends-early : (included : List ℕ → Reading → Result Reading WalkFault) 
     rest_walked included vars text reading ≡ Err (BadText text.source.name (length text.source.bytes))
 ends-early included vars text reading e within may = walked-end included vars text reading e within ∙ ap (λ b. when b reading (BadText text.source.name (length text.source.bytes))) may
 
--- a token leads on, or to a text that is included
-pub turn-on : (included : List ℕ → Reading → Result Reading WalkFault) (vars : List Pair) (wanted : Result Reading WalkFault) (turn : Turn) (got : Taken) → wanted ≡ goes_on included vars turn → turn.taken ≡ got →
-    wanted ≡ (met included got >>= rest_walked included vars turn.text)
-turn-on included vars wanted turn got h e = h ∙ ap (λ t. met included t >>= rest_walked included vars turn.text) e
-
--- what was begun before a token and by it
-pub spent-more : (first text : OpenText) (begin reading : Reading) (turn : Turn) (after : Reading) → left_of text ≤ left_of first → Spent (left_of first - left_of text) begin reading → Goes text reading turn → reading_of turn.taken ≡ after →
-    Spent (left_of first - left_of turn.text) begin after
-spent-more first text begin reading turn after less spent goes e =
-    let left : left_of turn.text + 1 ≡ left_of text = goes.left in
-    let deeper : deeper_of (reading_of turn.taken).outline ≤ deeper_of reading.outline + 1 = goes.deeper in
-    let before : deeper_of reading.outline ≤ deeper_of begin.outline + (left_of first - left_of text) = spent.deeper in
-    let total = goes.total in
-    let totals = spent.total in
-    subst (λ (r : Reading). Spent (left_of first - left_of turn.text) begin r) e (record { deeper = omega arith; total = goes.total ∙ spent.total })

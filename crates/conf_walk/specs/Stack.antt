@@ -90,3 +90,21 @@ pub record Spent (tokens : ℕ) (before after : Reading) : Type 0 where
 abbrev pub Stops : OpenText → Reading → Stop → Type 0
 Stops text reading (stop.Ended after) = Spent (left_of text) reading after
 Stops text reading (stop.Includes next name after) = IsOpen next × (left_of next < left_of text) × Spent (left_of text - left_of next) reading after
+
+-- ---- the stack of texts
+
+-- what is still to walk of a stack of texts, the innermost last, with so many nestings left for those that the outermost includes
+abbrev pub resumed : List Pair → Tree → ℕ → List OpenText → Reading → Result Reading WalkFault
+resumed vars file left [] reading = Ok reading
+resumed vars file left (text ∷ above) reading = resumed vars file (left - 1) above reading >>= rest_walked (text_walked vars file left) vars text
+
+-- what always holds of a stack: no more sections are begun than tokens walked, and no more of these than bytes
+pub record IsStack (texts : List OpenText) (reading : Reading) : Type 0 where
+  pub each : All IsOpen texts
+  pub few : length texts ≤ nestings
+  pub deeper : deeper_of reading.outline + sum_by left_of texts ≤ reading.total
+  pub total : reading.total ≤ most_bytes
+
+-- what is left to do: each turn ends a text, or takes a token to begin another
+abbrev pub work_left : List OpenText → Reading → ℕ
+work_left texts reading = 2 * sum_by left_of texts + 2 * (most_bytes - reading.total) + length texts

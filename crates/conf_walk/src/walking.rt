@@ -1,13 +1,20 @@
-ghost use Rattle.std.specs.Prelude.{◌≡◌, IfErr};
+ghost use Rattle.std.specs.Prelude.{◌≡◌, ◌+◌, ◌-◌, ◌≤◌, ◌∷◌, ◌++◌, [], List, IfErr, IfOk, length};
+ghost use Rattle.base_fields.specs.declared.names.Pair.{Pair};
 ghost use Rattle.outside.specs.Counts.{NoneFell};
 ghost use Rattle.conf_walk.specs.Answers.{Answers, HasCause};
-ghost use Rattle.conf_walk.specs.Walk.{texts_of};
+ghost use Rattle.conf_walk.specs.Stack.{IsStack, Leads, resumed, work_left};
+ghost use Rattle.conf_walk.specs.Walk.{◌>>=◌, nestings, text_walked, texts_of};
 
+use crate::running::{OpenText, Stop, run_text};
+use crate::texts::{Reading, read_text};
 use crate::{Vars, WalkFault};
-use base_fields::{List, Name};
+use base_fields::{List, Name, NoMemory};
 use conf_items::TopItem;
 use outside::Files;
 use std::alloc::Global;
+
+/// The main text has nesting 0, and the deepest has 8.
+const NESTINGS: usize = 9;
 
 /// What the texts of a configuration say.
 #[derive(Debug, Drop)]
@@ -17,6 +24,42 @@ pub struct Texts {
     /// One name for each text that was read, in the order of reading, the main text first. The text of a
     /// [`conf_items::Place`] is the one of that number.
     pub names: List<Name>,
+}
+
+// The refusal of a text at a nesting above 8.
+fn too_deep(alloc: Global, name: &str) -> Result<WalkFault, NoMemory>
+    ensures { IfOk result (λ fault. fault ≡ WalkFault.DeepInclude name.now) }
+{
+    Ok(WalkFault::DeepInclude {
+        name: Name::of(alloc, name)?,
+    })
+}
+
+// Reads the text of that name and puts it on the stack. Takes memory.
+fn enter<F: Files>(
+    alloc: Global,
+    files: &mut F,
+    name: &str,
+    stack: &mut Vec<OpenText>,
+    reading: Reading,
+) -> Result<Reading, WalkFault>
+    requires { IsStack stack.old.items reading }
+    ensures none_fell { NoneFell (F.counts files.old) (F.counts files.new) }
+    ensures cause { IfErr result (HasCause (F.counts files.old) (F.counts files.new)) }
+    ensures same_files { F.file files.new ≡ F.file files.old }
+    ensures stack { IfOk result (IsStack stack.new.items) }
+    ensures work { IfOk result (λ after. work_left stack.new.items after ≤ work_left stack.old.items reading + 1) }
+    ensures leads { F.told → (vars : List Pair) → Leads (text_walked vars (F.file files.old) (nestings - length stack.old.items) name.now reading >>= resumed vars (F.file files.old) 8 stack.old.items) (resumed vars (F.file files.old) 8 stack.new.items) result }
+{
+    if stack.len() >= NESTINGS {
+        return Err(too_deep(alloc, name)?);
+    }
+    let source = read_text(alloc, files, name, &reading)?;
+    let after = reading.add(alloc, &source)?;
+    stack
+        .push(OpenText::new(source))
+        .map_err(|_| WalkFault::NoMemory)?;
+    Ok(after)
 }
 
 /// Reads the text of that name with all that it includes. Takes memory. It reads each text once, and keeps
@@ -32,5 +75,19 @@ pub fn read_texts<F: Files>(
     ensures same_files { F.file files.new ≡ F.file files.old }
     ensures answers { F.told → Answers (texts_of vars.now (F.file files.old) name.now) result }
 {
-    Err(WalkFault::NoMemory)
+    let mut stack = Vec::new(alloc);
+    let mut reading = enter(alloc, files, name, &mut stack, Reading::new(alloc))?;
+    while let Some(text) = stack.pop() {
+        match run_text(alloc, vars, text, reading)? {
+            Stop::Ended(after) => reading = after,
+            Stop::Includes(text, name, after) => {
+                stack.push(text).map_err(|_| WalkFault::NoMemory)?;
+                reading = enter(alloc, files, name.text.text(), &mut stack, after)?;
+            }
+        }
+    }
+    Ok(Texts {
+        items: reading.outline.items,
+        names: reading.names,
+    })
 }
