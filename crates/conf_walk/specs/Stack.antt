@@ -98,6 +98,14 @@ abbrev pub resumed : List Pair → Tree → ℕ → List OpenText → Reading �
 resumed vars file left [] reading = Ok reading
 resumed vars file left (text ∷ above) reading = resumed vars file (left - 1) above reading >>= rest_walked (text_walked vars file left) vars text
 
+-- the same of all texts that are open: 8 nestings are left for what the main text includes
+abbrev pub stack_walked : List Pair → Tree → List OpenText → Reading → Result Reading WalkFault
+stack_walked vars file texts reading = resumed vars file 8 texts reading
+
+-- a text that stands here is walked, and then what is left of the stack
+abbrev pub then_walked : List Pair → Tree → List OpenText → List ℕ → Reading → Result Reading WalkFault
+then_walked vars file texts name reading = text_walked vars file (nestings - length texts) name reading >>= stack_walked vars file texts
+
 -- what always holds of a stack: no more sections are begun than tokens walked, and no more of these than bytes
 pub record IsStack (texts : List OpenText) (reading : Reading) : Type 0 where
   pub each : All IsOpen texts

@@ -1,9 +1,9 @@
-ghost use Rattle.std.specs.Prelude.{◌≡◌, ◌+◌, ◌-◌, ◌≤◌, ◌∷◌, ◌++◌, [], List, IfErr, IfOk, length};
+ghost use Rattle.std.specs.Prelude.{◌≡◌, ◌+◌, ◌≤◌, ◌∷◌, ◌++◌, [], IfErr, IfOk, List, OnOk};
 ghost use Rattle.base_fields.specs.declared.names.Pair.{Pair};
 ghost use Rattle.outside.specs.Counts.{NoneFell};
 ghost use Rattle.conf_walk.specs.Answers.{Answers, HasCause};
-ghost use Rattle.conf_walk.specs.Stack.{IsStack, Leads, resumed, work_left};
-ghost use Rattle.conf_walk.specs.Walk.{◌>>=◌, nestings, text_walked, texts_of};
+ghost use Rattle.conf_walk.specs.Stack.{IsStack, Leads, stack_walked, then_walked, work_left};
+ghost use Rattle.conf_walk.specs.Walk.{texts_of};
 
 use crate::running::{OpenText, Stop, run_text};
 use crate::texts::{Reading, read_text};
@@ -35,6 +35,15 @@ fn too_deep(alloc: Global, name: &str) -> Result<WalkFault, NoMemory>
     })
 }
 
+// Puts a text on the stack. Takes memory.
+fn push(stack: &mut Vec<OpenText>, text: OpenText) -> Result<(), WalkFault>
+    ensures ok { OnOk result (stack.new.items ≡ stack.old.items ++ text ∷ []) }
+    ensures fault { IfErr result (λ fault. fault ≡ WalkFault.NoMemory) }
+{
+    stack.push(text).map_err(|_| WalkFault::NoMemory)?;
+    Ok(())
+}
+
 // Reads the text of that name and puts it on the stack. Takes memory.
 fn enter<F: Files>(
     alloc: Global,
@@ -49,16 +58,14 @@ fn enter<F: Files>(
     ensures same_files { F.file files.new ≡ F.file files.old }
     ensures stack { IfOk result (IsStack stack.new.items) }
     ensures work { IfOk result (λ after. work_left stack.new.items after ≤ work_left stack.old.items reading + 1) }
-    ensures leads { F.told → (vars : List Pair) → Leads (text_walked vars (F.file files.old) (nestings - length stack.old.items) name.now reading >>= resumed vars (F.file files.old) 8 stack.old.items) (resumed vars (F.file files.old) 8 stack.new.items) result }
+    ensures leads { F.told → (vars : List Pair) → Leads (then_walked vars (F.file files.old) stack.old.items name.now reading) (stack_walked vars (F.file files.old) stack.new.items) result }
 {
     if stack.len() >= NESTINGS {
         return Err(too_deep(alloc, name)?);
     }
     let source = read_text(alloc, files, name, &reading)?;
     let after = reading.add(alloc, &source)?;
-    stack
-        .push(OpenText::new(source))
-        .map_err(|_| WalkFault::NoMemory)?;
+    push(stack, OpenText::new(source))?;
     Ok(after)
 }
 
@@ -81,7 +88,7 @@ pub fn read_texts<F: Files>(
         match run_text(alloc, vars, text, reading)? {
             Stop::Ended(after) => reading = after,
             Stop::Includes(text, name, after) => {
-                stack.push(text).map_err(|_| WalkFault::NoMemory)?;
+                push(&mut stack, text)?;
                 reading = enter(alloc, files, name.text.text(), &mut stack, after)?;
             }
         }
