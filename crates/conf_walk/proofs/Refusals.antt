@@ -1,6 +1,8 @@
 -- A refusal ends what would follow.
 use Rattle.std.proofs.Common.{◌≡◌, Result, Ok, Err, ap, subst, sym}
-use Rattle.conf_walk.specs.Answers.{Refuses}
+use Rattle.outside.specs.Counts.{Counts}
+use Rattle.conf_walk.specs.Answers.{HasCause, Refuses}
+use Rattle.conf_walk.specs.Stack.{IsNoFileFault}
 use Rattle.conf_walk.specs.Walk.{◌>>=◌}
 use Rattle.conf_walk.specs.declared.fault.WalkFault.{WalkFault}
 use Rattle.conf_walk.specs.declared.fault.WalkFault.TheVariants.{BadText, Unset, DeepInclude, TooLong, Missing, SourceShort, FileFault, NoMemory}
@@ -17,3 +19,14 @@ refuses-bind wanted f NoMemory h = tt
 
 pub refuses-along : {A : Type 0} (wanted other : Result A WalkFault) (fault : WalkFault) → wanted ≡ other → Refuses other fault → Refuses wanted fault
 refuses-along wanted other fault e h = subst (λ w. Refuses w fault) (sym e) h
+
+-- what has no cause in the files needs none
+pub needs-none : (before now : Counts) (fault : WalkFault) → IsNoFileFault fault → HasCause before now fault
+needs-none before now (BadText name place) h = tt
+needs-none before now (Unset var) h = tt
+needs-none before now (DeepInclude name) h = tt
+needs-none before now (TooLong total) h = tt
+needs-none before now (Missing name) h = absurd h
+needs-none before now (SourceShort name at) h = absurd h
+needs-none before now FileFault h = absurd h
+needs-none before now NoMemory h = tt

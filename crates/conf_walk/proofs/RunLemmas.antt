@@ -39,4 +39,3 @@ ends included vars text reading e within may = walked-end included vars text rea
 pub ends-early : (included : List ℕ → Reading → Result Reading WalkFault) (vars : List Pair) (text : OpenText) (reading : Reading) → slice_get text.source.tokens text.at ≡ None → text.at ≤ length text.source.tokens → may_end text.parser ≡ false →
     rest_walked included vars text reading ≡ Err (BadText text.source.name (length text.source.bytes))
 ends-early included vars text reading e within may = walked-end included vars text reading e within ∙ ap (λ b. when b reading (BadText text.source.name (length text.source.bytes))) may
-

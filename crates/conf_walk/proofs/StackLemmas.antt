@@ -1,5 +1,5 @@
 -- The stack of texts, and the work that is left on it.
-use Rattle.std.proofs.Common.{◌≡◌, ℕ, ◌+◌, ◌-◌, ◌*◌, ◌<◌, ◌≤◌, suc, All, List, [], ◌∷◌, ◌++◌, length, ◌∙◌, arith, length-append}
+use Rattle.std.proofs.Common.{◌≡◌, ℕ, ◌+◌, ◌-◌, ◌*◌, ◌<◌, ◌≤◌, suc, All, List, [], ◌∷◌, ◌++◌, length, ◌∙◌, ap, arith, length-append}
 use Rattle.std.specs.List.{sum_by}
 use Rattle.std.proofs.lemmas.List.Elements.{All-append, All-cons, All-nil}
 use Rattle.std.proofs.lemmas.List.Sums.{sum_by-append}
@@ -104,3 +104,6 @@ work-enters texts source reading limit count =
     let sum = sum-more texts (begun source) in
     let many = length-more texts (begun source) in
     omega arith
+
+pub pushed-on : (texts more : List OpenText) (text : OpenText) (source : Text) → more ≡ texts ++ text ∷ [] → text ≡ begun source → more ≡ texts ++ begun source ∷ []
+pushed-on texts more text source pushed new = pushed ∙ ap (λ t. texts ++ t ∷ []) new

@@ -73,7 +73,7 @@ enters vars file texts name reading source room h =
     let next : nestings - length texts ≡ suc (8 - length texts) = omega arith in
     let included = text_walked vars file (8 - length texts) in
     let walked : text_walked vars file (nestings - length texts) name reading ≡ rest_walked included vars (begun source) (with_text reading source) =
-      walked-read vars file (nestings - length texts) (8 - length texts) name reading next ∙ ap (λ w. w >>= λ text. tokens_walked included vars text text.tokens start (with_text reading text)) h in
+    walked-read vars file (nestings - length texts) (8 - length texts) name reading next ∙ ap (λ w. w >>= λ text. tokens_walked included vars text text.tokens start (with_text reading text)) h in
     ap (λ w. w >>= resumed vars file 8 texts) walked ∙ sym (resumed-top vars file 8 texts (begun source) (with_text reading source))
 
 -- the text on top ends
@@ -98,6 +98,11 @@ top-includes vars file texts text next name reading after h =
     ∙ bind-assoc (included name after) (rest_walked included vars next) below
     ∙ bind-same (included name after) (λ r. rest_walked included vars next r >>= below) (resumed vars file 8 (texts ++ next ∷ [])) behind)
 
+pub top-includes-at : (vars : List Pair) (file : Tree) (texts more : List OpenText) (text next : OpenText) (name said : List ℕ) (reading after : Reading) → more ≡ texts ++ next ∷ [] → said ≡ name →
+    rest_walked (text_walked vars file (8 - length texts)) vars text reading ≡ (text_walked vars file (8 - length texts) name after >>= rest_walked (text_walked vars file (8 - length texts)) vars next) →
+    stack_walked vars file (texts ++ text ∷ []) reading ≡ then_walked vars file more said after
+top-includes-at vars file texts more text next name said reading after pushed same h = rw (pushed, same) (top-includes vars file texts text next name reading after h)
+
 -- the text on top refuses
 pub top-refused : (vars : List Pair) (file : Tree) (texts : List OpenText) (text : OpenText) (reading : Reading) (fault : WalkFault) →
     Refuses (rest_walked (text_walked vars file (8 - length texts)) vars text reading) fault → Refuses (stack_walked vars file (texts ++ text ∷ []) reading) fault
@@ -107,8 +112,10 @@ top-refused vars file texts text reading fault h =
 
 -- ---- the whole
 
+-- the main text is read first
+pub first-walked : (vars : List Pair) (file : Tree) (name : List ℕ) (texts : List OpenText) (reading : Reading) → texts ≡ [] → reading ≡ nothing_read →
+    text_walked vars file nestings name nothing_read ≡ then_walked vars file texts name reading
+first-walked vars file name texts reading empty new = rw (empty, new) (sym (bind-ok (text_walked vars file nestings name nothing_read)))
+
 pub all-refused : (vars : List Pair) (file : Tree) (name : List ℕ) (fault : WalkFault) → Refuses (text_walked vars file nestings name nothing_read) fault → Refuses (texts_of vars file name) fault
 all-refused vars file name fault h = refuses-bind (text_walked vars file nestings name nothing_read) (λ reading. Ok (texts_in reading)) fault h
-
-pub all-walked : (vars : List Pair) (file : Tree) (name : List ℕ) (reading : Reading) → text_walked vars file nestings name nothing_read ≡ Ok reading → texts_of vars file name ≡ Ok (texts_in reading)
-all-walked vars file name reading h = ap (λ w. w >>= λ r. Ok (texts_in r)) h

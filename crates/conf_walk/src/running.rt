@@ -100,7 +100,10 @@ pub fn run_text(
     ensures fault { IfErr result IsNoFileFault }
 {
     while let Some(token) = text.token() {
-        let Turn { text: behind, taken } = walk_token(alloc, vars, text, token, reading)?;
+        let Turn {
+            text: behind,
+            taken,
+        } = walk_token(alloc, vars, text, token, reading)?;
         match taken {
             Taken::Goes(after) => {
                 text = behind;

@@ -1,15 +1,15 @@
-ghost use Rattle.std.specs.Prelude.{◌≡◌, ◌+◌, ◌≤◌, ◌∷◌, ◌++◌, [], IfErr, IfOk, List, OnOk};
+ghost use Rattle.std.specs.Prelude.{◌≡◌, ◌+◌, ◌<◌, ◌≤◌, ◌∷◌, ◌++◌, [], IfErr, IfOk, List, OnOk};
 ghost use Rattle.base_fields.specs.declared.names.Pair.{Pair};
 ghost use Rattle.outside.specs.Counts.{NoneFell};
 ghost use Rattle.conf_walk.specs.Answers.{Answers, HasCause};
 ghost use Rattle.conf_walk.specs.Stack.{IsStack, Leads, stack_walked, then_walked, work_left};
-ghost use Rattle.conf_walk.specs.Walk.{texts_of};
+ghost use Rattle.conf_walk.specs.Walk.{texts_in, texts_of};
 
 use crate::running::{OpenText, Stop, run_text};
 use crate::texts::{Reading, read_text};
 use crate::{Vars, WalkFault};
 use base_fields::{List, Name, NoMemory};
-use conf_items::TopItem;
+use conf_items::{Outline, TopItem};
 use outside::Files;
 use std::alloc::Global;
 
@@ -69,6 +69,44 @@ fn enter<F: Files>(
     Ok(after)
 }
 
+// Walks the innermost text up to its end, or to a text that it includes, which is then the innermost. Takes
+// memory.
+fn go_on<F: Files>(
+    alloc: Global,
+    files: &mut F,
+    vars: &Vars,
+    stack: &mut Vec<OpenText>,
+    text: OpenText,
+    reading: Reading,
+) -> Result<Reading, WalkFault>
+    requires { IsStack (stack.old.items ++ text ∷ []) reading }
+    ensures none_fell { NoneFell (F.counts files.old) (F.counts files.new) }
+    ensures cause { IfErr result (HasCause (F.counts files.old) (F.counts files.new)) }
+    ensures same_files { F.file files.new ≡ F.file files.old }
+    ensures stack { IfOk result (IsStack stack.new.items) }
+    ensures work { IfOk result (λ after. work_left stack.new.items after < work_left (stack.old.items ++ text ∷ []) reading) }
+    ensures leads { F.told → Leads (stack_walked vars.now (F.file files.old) (stack.old.items ++ text ∷ []) reading) (stack_walked vars.now (F.file files.old) stack.new.items) result }
+{
+    let stop = run_text(alloc, vars, text, reading)?;
+    match stop {
+        Stop::Ended(after) => Ok(after),
+        Stop::Includes(text, name, before) => {
+            push(stack, text)?;
+            let after = enter(alloc, files, name.text.text(), stack, before)?;
+            Ok(after)
+        }
+    }
+}
+
+// What the texts say, once all were read.
+fn texts_in(reading: Reading) -> Texts
+    ensures { result ≡ texts_in reading }
+{
+    let Reading { outline, names, .. } = reading;
+    let Outline { items, .. } = outline;
+    Texts { items, names }
+}
+
 /// Reads the text of that name with all that it includes. Takes memory. It reads each text once, and keeps
 /// at most nine open at a time.
 pub fn read_texts<F: Files>(
@@ -85,16 +123,7 @@ pub fn read_texts<F: Files>(
     let mut stack = Vec::new(alloc);
     let mut reading = enter(alloc, files, name, &mut stack, Reading::new(alloc))?;
     while let Some(text) = stack.pop() {
-        match run_text(alloc, vars, text, reading)? {
-            Stop::Ended(after) => reading = after,
-            Stop::Includes(text, name, after) => {
-                push(&mut stack, text)?;
-                reading = enter(alloc, files, name.text.text(), &mut stack, after)?;
-            }
-        }
+        reading = go_on(alloc, files, vars, &mut stack, text, reading)?;
     }
-    Ok(Texts {
-        items: reading.outline.items,
-        names: reading.names,
-    })
+    Ok(texts_in(reading))
 }

@@ -7,11 +7,11 @@ use Rattle.conf_walk.proofs.running.run_text.Given as goal
 -- what is left of the text says what the whole of it did
 abbrev pub invariant-loop-token : goal.invariant-loop-token
 invariant-loop-token l = record {
-    holds : IsOpen l.text;
-    less : left_of l.text ≤ left_of l.fn.text;
-    spent : Spent (left_of l.fn.text - left_of l.text) l.fn.reading l.reading;
-    same : (included : List ℕ → Reading → Result Reading WalkFault) → rest_walked included l.vars l.fn.text l.fn.reading ≡ rest_walked included l.vars l.text l.reading;
-  }
+  holds : IsOpen l.text;
+  less : left_of l.text ≤ left_of l.fn.text;
+  spent : Spent (left_of l.fn.text - left_of l.text) l.fn.reading l.reading;
+  same : (included : List ℕ → Reading → Result Reading WalkFault) → rest_walked included l.vars l.fn.text l.fn.reading ≡ rest_walked included l.vars l.text l.reading;
+}
 
 abbrev pub decreases-loop-token : goal.decreases-loop-token
 decreases-loop-token l = left_of l.text

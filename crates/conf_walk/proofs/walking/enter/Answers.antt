@@ -1,7 +1,7 @@
-use Rattle.std.proofs.Common.{◌≡◌, ◌+◌, ◌≤◌, ◌<◌, [], ◌∷◌, ◌++◌, length, arith, ◌∙◌, ap, subst}
+use Rattle.std.proofs.Common.{◌≡◌, ◌+◌, ◌≤◌, ◌<◌, [], ◌∷◌, ◌++◌, length, arith, subst}
 use Rattle.std.proofs.lemmas.Result.{err_from_is_err_and}
 use Rattle.conf_walk.specs.Stack.{IsOpen, begun}
-use Rattle.conf_walk.proofs.StackLemmas.{stack-enters}
+use Rattle.conf_walk.proofs.StackLemmas.{pushed-on, stack-enters}
 use Rattle.conf_walk.proofs.WalkLemmas.{enters, enter-refused, enters-too-deep}
 use Rattle.conf_walk.proofs.walking.enter.Goals as goal
 
@@ -21,7 +21,7 @@ returns-clause-stack g c =
     let texts = c.args.stack.now.items in
     let source = c.in_ok-source.source in
     let room : length texts < 9 = omega (arith, c.len.ensures, c.if-len-ge-NESTINGS.false) in
-    let pushed : c.push.new.stack.items ≡ texts ++ begun source ∷ [] = c.in_ok-push.ensures.ok ∙ ap (λ text. texts ++ text ∷ []) c.new.ensures.text in
+    let pushed : c.push.new.stack.items ≡ texts ++ begun source ∷ [] = pushed-on texts c.push.new.stack.items c.new.result source c.in_ok-push.ensures.ok c.new.ensures.text in
     rw (pushed, c.in_ok-after.ensures) (stack-enters texts source c.args.reading c.requires room (subst IsOpen c.new.ensures.text c.new.ensures.holds) c.in_ok-source.ensures.limit c.in_ok-source.ensures.count)
 
 pub returns-clause-leads : goal.returns-clause-leads
@@ -29,5 +29,5 @@ returns-clause-leads g c = λ told vars.
     let texts = c.args.stack.now.items in
     let source = c.in_ok-source.source in
     let room : length texts < 9 = omega (arith, c.len.ensures, c.if-len-ge-NESTINGS.false) in
-    let pushed : c.push.new.stack.items ≡ texts ++ begun source ∷ [] = c.in_ok-push.ensures.ok ∙ ap (λ text. texts ++ text ∷ []) c.new.ensures.text in
+    let pushed : c.push.new.stack.items ≡ texts ++ begun source ∷ [] = pushed-on texts c.push.new.stack.items c.new.result source c.in_ok-push.ensures.ok c.new.ensures.text in
     rw (pushed, c.in_ok-after.ensures) (enters vars (g.F.Files.file c.args.files.now) texts c.args.name.now c.args.reading source room (c.in_ok-source.ensures.answers told))
