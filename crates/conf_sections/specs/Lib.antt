@@ -1,0 +1,4 @@
+-- definitions that contracts cite
+pub mod Image
+pub mod Conf
+pub mod Reading
