@@ -20,7 +20,9 @@ fn partition_head_fault(head: &Head) -> Option<SectionFault>
     match &head.name {
         Some(name) if values::is_partition_name(name.text.text().as_bytes()) => None,
         Some(name) => Some(SectionFault::BadValue { place: name.place }),
-        None => Some(SectionFault::BadValue { place: head.word.place }),
+        None => Some(SectionFault::BadValue {
+            place: head.word.place,
+        }),
     }
 }
 

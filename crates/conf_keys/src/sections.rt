@@ -241,7 +241,9 @@ fn sparse_head_fault(head: &Head, settings: &[Setting]) -> Option<SectionFault>
     ensures { result ≡ sparse_head_fault head.now settings.now }
 {
     if last(settings, "image").is_none() {
-        return Some(SectionFault::BadValue { place: head.word.place });
+        return Some(SectionFault::BadValue {
+            place: head.word.place,
+        });
     }
     unnamed_fault(head)
 }
@@ -317,7 +319,9 @@ fn flash_head_fault(head: &Head, settings: &[Setting]) -> Option<SectionFault>
     ensures { result ≡ flash_head_fault head.now settings.now }
 {
     if lacks_key(settings) || is_too_large(settings) {
-        return Some(SectionFault::BadValue { place: head.word.place });
+        return Some(SectionFault::BadValue {
+            place: head.word.place,
+        });
     }
     named_fault(head)
 }

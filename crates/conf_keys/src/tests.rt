@@ -120,7 +120,7 @@ fn types_of_partitions(rt: HostRuntime) -> Result<(), Fail> {
 // One key of a section: its name, whether it is `+=`, and the values, of which several are a list.
 type Row = (&'static str, bool, &'static [&'static str]);
 
-fn word(alloc: Global, text: &str, at: usize) -> Result<Word, NoMemory> {
+fn word(alloc: Global, text: &str, at: u64) -> Result<Word, NoMemory> {
     Ok(Word {
         text: Name::of(alloc, text)?,
         place: Place { text: 0, at },
@@ -128,13 +128,13 @@ fn word(alloc: Global, text: &str, at: usize) -> Result<Word, NoMemory> {
 }
 
 // The key stands at this place, its value or list at 1 behind it, and the values of a list from 2 on.
-fn setting(alloc: Global, row: &Row, at: usize) -> Result<Setting, NoMemory> {
+fn setting(alloc: Global, row: &Row, at: u64) -> Result<Setting, NoMemory> {
     let value = match row.2 {
         [only] => Value::One(word(alloc, only, at.wrapping_add(1))?),
         several => {
             let mut words = List::new(alloc);
             for (i, text) in several.iter().enumerate() {
-                words.push(word(alloc, text, at.wrapping_add(2).wrapping_add(i))?)?;
+                words.push(word(alloc, text, at.wrapping_add(2).wrapping_add(i as u64))?)?;
             }
             Value::Many(
                 Place {
@@ -159,7 +159,7 @@ fn setting(alloc: Global, row: &Row, at: usize) -> Result<Setting, NoMemory> {
 fn settings(alloc: Global, rows: &[Row]) -> Result<Vec<Setting>, NoMemory> {
     let mut settings = Vec::new(alloc);
     for (i, row) in rows.iter().enumerate() {
-        settings.push(setting(alloc, row, i.wrapping_mul(100))?)?;
+        settings.push(setting(alloc, row, (i as u64).wrapping_mul(100))?)?;
     }
     Ok(settings)
 }
@@ -171,18 +171,18 @@ fn head(alloc: Global, name: &str) -> Result<Head, NoMemory> {
         text => Some(word(alloc, text, 950)?),
     };
     Ok(Head {
-        word: Place { text: 0, at: 900 },
+        word: word(alloc, "section", 900)?,
         name,
     })
 }
 
-fn bad<Keys>(at: usize) -> Result<Keys, SectionFault> {
+fn bad<Keys>(at: u64) -> Result<Keys, SectionFault> {
     Err(SectionFault::BadValue {
         place: Place { text: 0, at },
     })
 }
 
-fn unknown<Keys>(at: usize) -> Result<Keys, SectionFault> {
+fn unknown<Keys>(at: u64) -> Result<Keys, SectionFault> {
     Err(SectionFault::UnknownKey {
         place: Place { text: 0, at },
     })
