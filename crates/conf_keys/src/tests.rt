@@ -1,6 +1,6 @@
 //! Texts against values, and settings against keys or the faulty place.
 use crate::checking::SectionFault;
-use crate::conf::{HdKeys, Hole};
+use crate::conf::{HdKeys, Hole, PlainKeys, SparseKeys};
 use crate::partitions::read_partition;
 use crate::sections::{
     check_device, image_head_fault, image_keys, item_fault, read_config, read_flash, read_hd,
@@ -214,6 +214,7 @@ fn expect_hd(
 #[test]
 fn keys_of_a_disk_image(rt: HostRuntime) -> Result<(), Fail> {
     let alloc = rt.alloc();
+    assert_eq!(rt; HdKeys::defaults(), HD);
     expect_hd(&rt, alloc, &[], Ok(HD))?;
     expect_hd(
         &rt,
@@ -311,10 +312,12 @@ fn keys_of_the_other_sections(rt: HostRuntime) -> Result<(), Fail> {
     )?;
     let sparse = read_sparse(alloc, &plain, sparse.as_slice())?;
     assert_eq!(rt; sparse.block_size, 8_192);
+    assert_eq!(rt; SparseKeys::defaults().block_size, 4_096);
 
     let file = settings(alloc, &[("name", false, &["b.bin"])])?;
     let file = read_plain(alloc, &plain, file.as_slice())?;
     assert_eq!(rt; file.name.map(|name| name.text() == "b.bin"), Some(true));
+    assert!(rt; PlainKeys::defaults().name.is_none());
 
     let own = settings(alloc, &[("size", false, &["1G"]), ("empty", true, &["x"])])?;
     let image = image_keys(alloc, own.as_slice())?;
