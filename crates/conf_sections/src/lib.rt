@@ -2,7 +2,9 @@
 //! its sections, or the first thing that is refused.
 #![tactic(auto)]
 
+mod conf;
 mod fault;
+mod image;
 mod reading;
 
 pub use conf_keys::{
