@@ -1,5 +1,5 @@
 -- An image, and what a configuration says, stay within the limits as they grow.
-use Rattle.std.proofs.Common.{◌≡◌, ℕ, zero, suc, ◌<◌, ◌⊎◌, ◌∷◌, ◌++◌, [], inl, inr, slice_index_or, arith}
+use Rattle.std.proofs.Common.{◌≡◌, ℕ, zero, suc, ◌<◌, ◌⊎◌, List, ◌∷◌, ◌++◌, [], inl, inr, slice_index_or, arith}
 use Rattle.std.specs.Prelude.{IsSome, Contains, All}
 use Rattle.std.proofs.lemmas.List.Elements.{All-append, All-cons, All-nil, Contains-append_cases}
 use Rattle.conf_keys.specs.declared.conf.Conf.{Conf}
@@ -9,7 +9,6 @@ use Rattle.conf_keys.specs.declared.conf.Kind.{Kind}
 use Rattle.conf_keys.specs.declared.conf.Kind.TheVariants.{Sparse}
 use Rattle.conf_keys.specs.declared.conf.PartitionSection.{PartitionSection}
 use Rattle.conf_keys.specs.Within.{IsFlashWithin, IsImageWithin, IsPartitionWithin, IsWithin}
-use Rattle.conf_sections.specs.Image.{of_kind}
 
 -- one kind alone
 only : (kind : Kind) → Contains (kind ∷ []) Sparse → kind ≡ Sparse
@@ -19,13 +18,13 @@ only kind h = at h.0 h.1 h.2
     at zero below is = is
     at (suc k) below is = absurd (omega arith)
 
-pub kind_within : (kind : Kind) (image : ImageSection) → IsImageWithin image → (kind ≡ Sparse → IsSome image.sparse.image) → IsImageWithin (of_kind kind image)
-kind_within kind image within there = record {
+pub kind_within : (kind : Kind) (image : ImageSection) (kinds : List Kind) → kinds ≡ image.kinds ++ kind ∷ [] → IsImageWithin image → (kind ≡ Sparse → IsSome image.sparse.image) → IsImageWithin (record image { kinds = kinds })
+kind_within kind image kinds is within there = record {
   name = within.name;
   size = within.size;
   hd = within.hd;
   sparse = within.sparse;
-  sparse_image = λ has. elim (Contains-append_cases image.kinds (kind ∷ []) Sparse has) [ inl before ↦ within.sparse_image before | inr last ↦ there (only kind last) ];
+  sparse_image = λ has. elim (Contains-append_cases image.kinds (kind ∷ []) Sparse (rw is at has)) [ inl before ↦ within.sparse_image before | inr last ↦ there (only kind last) ];
   parts = within.parts;
 }
 
@@ -33,18 +32,18 @@ kind_within kind image within there = record {
 more : {A : Type 0} (P : A → Type 0) (xs : _) (x : A) → All P xs → P x → All P (xs ++ x ∷ [])
 more P xs x all one = All-append P xs (x ∷ []) all (All-cons P x [] one (All-nil P))
 
-pub part_within : (image : ImageSection) (part : PartitionSection) → IsImageWithin image → IsPartitionWithin part → IsImageWithin (record image { parts = image.parts ++ part ∷ [] })
-part_within image part within one = record {
+pub part_within : (image : ImageSection) (part : PartitionSection) (parts : List PartitionSection) → parts ≡ image.parts ++ part ∷ [] → IsImageWithin image → IsPartitionWithin part → IsImageWithin (record image { parts = parts })
+part_within image part parts is within one = record {
   name = within.name;
   size = within.size;
   hd = within.hd;
   sparse = within.sparse;
   sparse_image = within.sparse_image;
-  parts = more IsPartitionWithin image.parts part within.parts one;
+  parts = rw is (more IsPartitionWithin image.parts part within.parts one);
 }
 
-pub flash_within : (conf : Conf) (flash : FlashSection) → IsWithin conf → IsFlashWithin flash → IsWithin (record conf { flashes = conf.flashes ++ flash ∷ [] })
-flash_within conf flash within one = record { flashes = more IsFlashWithin conf.flashes flash within.flashes one; images = within.images }
+pub flash_within : (conf : Conf) (flash : FlashSection) (flashes : List FlashSection) → flashes ≡ conf.flashes ++ flash ∷ [] → IsWithin conf → IsFlashWithin flash → IsWithin (record conf { flashes = flashes })
+flash_within conf flash flashes is within one = record { flashes = rw is (more IsFlashWithin conf.flashes flash within.flashes one); images = within.images }
 
-pub image_within : (conf : Conf) (image : ImageSection) → IsWithin conf → IsImageWithin image → IsWithin (record conf { images = conf.images ++ image ∷ [] })
-image_within conf image within one = record { flashes = within.flashes; images = more IsImageWithin conf.images image within.images one }
+pub image_within : (conf : Conf) (image : ImageSection) (images : List ImageSection) → images ≡ conf.images ++ image ∷ [] → IsWithin conf → IsImageWithin image → IsWithin (record conf { images = images })
+image_within conf image images is within one = record { flashes = within.flashes; images = rw is (more IsImageWithin conf.images image within.images one) }

@@ -1,3 +1,2 @@
 -- lemmas of the crate
 pub mod Growing
-pub mod Items

@@ -34,6 +34,7 @@ fn config_section(
     Ok(with_config(conf, keys))
 }
 
+#[tactic(auto, using(crate::proofs::Growing::flash_within))]
 fn flash_section(
     alloc: Global,
     mut conf: Conf,
@@ -48,6 +49,7 @@ fn flash_section(
     Ok(conf)
 }
 
+#[tactic(auto, using(crate::proofs::Growing::image_within))]
 fn image_section(
     alloc: Global,
     mut conf: Conf,

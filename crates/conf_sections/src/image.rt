@@ -2,7 +2,7 @@
 ghost use Rattle.std.specs.Prelude.{◌≡◌, ◌≤◌, [], IfOk, IsSome, length};
 ghost use Rattle.conf_keys.specs.Sections.{Answers, answer, hd_values, name_text, named_fault};
 ghost use Rattle.conf_keys.specs.Within.{IsImageWithin, IsHdWithin};
-ghost use Rattle.conf_sections.specs.Image.{counted, image_named, image_of, is_image_made, is_made, is_partition, keyed, keys_of, kind_of, left_behind, of_kind, origin_of, taken, with_item, with_items, with_key, with_keys, with_kind, with_partition, with_section};
+ghost use Rattle.conf_sections.specs.Image.{counted, image_named, image_of, is_image_made, is_made, is_partition, keyed, keys_of, kind_of, left_behind, of_kind, origin_of, read_as, taken, with_item, with_items, with_key, with_keys, with_kind, with_partition, with_section};
 
 use base_fields::{List, Name, TableKind};
 use conf_items::{Given, Head, Setting, Subsection, TopSection};
@@ -111,6 +111,7 @@ fn keyed(
     }
 }
 
+#[tactic(auto, using(crate::proofs::Growing::kind_within))]
 fn of_kind(kind: Kind, mut image: ImageSection) -> Result<ImageSection, SectionFault>
     requires within { IsImageWithin image }
     requires sparse { kind ≡ Kind.Sparse → IsSome image.sparse.image }
@@ -135,6 +136,7 @@ fn with_kind(
     Ok(of_kind(kind, after)?)
 }
 
+#[tactic(auto, using(crate::proofs::Growing::part_within))]
 fn with_partition(
     alloc: Global,
     mut image: ImageSection,
@@ -336,13 +338,24 @@ fn with_keys(
     }
 }
 
+// An image of that origin, or its first fault.
+fn read_as(
+    alloc: Global,
+    origin: Origin,
+    top: &TopSection,
+) -> Result<ImageSection, SectionFault>
+    ensures answers { Answers (read_as origin top.now) result }
+    ensures within { IfOk result IsImageWithin }
+{
+    let name = name_of(alloc, &top.head)?;
+    let whole = with_items(alloc, origin, image_named(alloc, name), top)?;
+    Ok(with_keys(alloc, origin, top.settings.as_slice(), whole)?)
+}
+
 /// An image, or its first fault: that of its name, and then those of its items in order. Takes memory.
 pub(crate) fn image_of(alloc: Global, top: &TopSection) -> Result<ImageSection, SectionFault>
     ensures answers { Answers (image_of top.now) result }
     ensures within { IfOk result IsImageWithin }
 {
-    let origin = origin_of(top.sections.as_slice());
-    let image = image_named(alloc, name_of(alloc, &top.head)?);
-    let whole = with_items(alloc, origin, image, top)?;
-    Ok(with_keys(alloc, origin, top.settings.as_slice(), whole)?)
+    read_as(alloc, origin_of(top.sections.as_slice()), top)
 }
