@@ -13,3 +13,6 @@ pub use conf_keys::{
 pub use conf_walk::Vars;
 pub use fault::ConfFault;
 pub use reading::read_conf;
+
+#[cfg(test)]
+mod tests;
