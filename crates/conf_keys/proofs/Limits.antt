@@ -10,7 +10,7 @@ use Rattle.conf_keys.specs.Settings.{last_text}
 use Rattle.conf_keys.specs.Values.{is_between, is_sector, number_between, number_of, passing, sector_of, size_from, size_of, size_with, bytes_of, unit_of}
 use Rattle.conf_keys.specs.Within.{IsBetween, IsHdWithin, IsSectorSize, IsSizeFrom}
 
-both : (a b : Bool) → (a && b) ≡ true → (a ≡ true) × (b ≡ true)
+pub both : (a b : Bool) → (a && b) ≡ true → (a ≡ true) × (b ≡ true)
 both true b e = (refl, e)
 both false b e = absurd (bad e)
   where
@@ -50,12 +50,14 @@ from_within least (Some n) h = passing_here (nat_le least n) refl
 pub size_at_within : (least : ℕ) (key : List ℕ) (settings : List Setting) → IfSome (size_at least key settings) (IsSizeFrom least)
 size_at_within least key settings = then_gives (size_from least) (IsSizeFrom least) (λ text. from_within least (size_of text) (size_small text)) (last_text key settings)
 
+pub between_gives : (least most n : ℕ) → is_between least most n ≡ true → IsBetween least most n
+between_gives least most n e = let p = both (nat_le least n) (nat_le n most) e in (leb-true least n p.0, leb-true n most p.1)
+
 pub number_at_within : (least most : ℕ) (key : List ℕ) (settings : List Setting) → IfSome (number_at least most key settings) (IsBetween least most)
 number_at_within least most key settings =
     then_gives (number_between least most) (IsBetween least most)
     (λ text. then_gives (passing (is_between least most)) (IsBetween least most)
-    (passing_gives (is_between least most) (IsBetween least most)
-    (λ n e. let p = both (nat_le least n) (nat_le n most) e in (leb-true least n p.0, leb-true n most p.1)))
+    (passing_gives (is_between least most) (IsBetween least most) (between_gives least most))
     (number_of text))
     (last_text key settings)
 

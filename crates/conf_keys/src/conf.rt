@@ -1,3 +1,7 @@
+ghost use Rattle.std.specs.Prelude.{◌≡◌, []};
+ghost use Rattle.conf_keys.specs.Sections.{hd_values, plain_values, sparse_values};
+ghost use Rattle.conf_keys.specs.Within.{IsHdWithin, IsSparseWithin};
+
 use base_fields::{List, Name, Pair, TableKind};
 
 /// The variables of a configuration. The first pair with a name counts.
@@ -100,6 +104,26 @@ pub struct HdKeys {
     pub sector_size: u32,
 }
 
+impl HdKeys {
+    /// The keys of an image without a section `hdimage`: those of one without settings.
+    pub fn defaults() -> HdKeys
+        ensures keys { result ≡ hd_values [] }
+        ensures within { IsHdWithin result }
+    {
+        HdKeys {
+            align: None,
+            partition_table_type: TableKind::Mbr,
+            extended_partition: 0,
+            disk_signature: 0,
+            disk_uuid: None,
+            gpt_location: 1024,
+            gpt_no_backup: false,
+            fill: false,
+            sector_size: 512,
+        }
+    }
+}
+
 /// The keys of `android-sparse`.
 #[derive(Debug, Drop)]
 pub struct SparseKeys {
@@ -109,11 +133,33 @@ pub struct SparseKeys {
     pub block_size: u32,
 }
 
+impl SparseKeys {
+    /// The keys of an image without a section `android-sparse`: those of one without settings.
+    pub fn defaults() -> SparseKeys
+        ensures keys { result ≡ sparse_values [] }
+        ensures within { IsSparseWithin result }
+    {
+        SparseKeys {
+            image: None,
+            block_size: 4096,
+        }
+    }
+}
+
 /// The keys of `file`.
 #[derive(Debug, Drop)]
 pub struct PlainKeys {
     /// The name of the file; the image's own where there is none.
     pub name: Option<Name>,
+}
+
+impl PlainKeys {
+    /// The keys of an image without a section `file`: those of one without settings.
+    pub fn defaults() -> PlainKeys
+        ensures { result ≡ plain_values [] }
+    {
+        PlainKeys { name: None }
+    }
 }
 
 /// A partition. Places and sizes are in bytes, identifiers in the order of RFC 9562.

@@ -2,6 +2,7 @@
 ghost use Rattle.std.specs.Prelude.{◌≡◌, ◌++◌, IfOk, OnOk, fold};
 ghost use Rattle.conf_keys.specs.Partitions.{given_holes, holes_of, partition_head_fault, partition_of, partition_values, type_at, with_hole, with_setting};
 ghost use Rattle.conf_keys.specs.Sections.{Answers};
+ghost use Rattle.conf_keys.specs.Within.{IsPartitionWithin};
 
 use crate::checking::SectionFault;
 use crate::conf::{Hole, PartitionSection};
@@ -20,7 +21,9 @@ fn partition_head_fault(head: &Head) -> Option<SectionFault>
     match &head.name {
         Some(name) if values::is_partition_name(name.text.text().as_bytes()) => None,
         Some(name) => Some(SectionFault::BadValue { place: name.place }),
-        None => Some(SectionFault::BadValue { place: head.word.place }),
+        None => Some(SectionFault::BadValue {
+            place: head.word.place,
+        }),
     }
 }
 
@@ -121,7 +124,8 @@ pub fn read_partition(
     head: &Head,
     settings: &[Setting],
 ) -> Result<PartitionSection, SectionFault>
-    ensures { Answers (partition_of head.now settings.now) result }
+    ensures keys { Answers (partition_of head.now settings.now) result }
+    ensures within { IfOk result IsPartitionWithin }
 {
     match section_fault(partition_head_fault(head), Section::Partition, settings) {
         Some(fault) => Err(fault),

@@ -1,9 +1,9 @@
 //! The keys of each section, from its settings in order.
-ghost use Rattle.std.specs.Prelude.{◌≡◌, IfOk, MatchResult};
+ghost use Rattle.std.specs.Prelude.{◌≡◌, IfOk, IfSome, IsSome, MatchResult};
 ghost use Rattle.conf_keys.specs.Checking.{step_of};
 ghost use Rattle.conf_keys.specs.Settings.{last_text};
 ghost use Rattle.conf_keys.specs.Sections.{Answers, fault_in, flash_head_fault, flash_of, flash_values, image_values, is_past, is_too_large, lacks_key, name_text, named_fault, numpebs_at, pebsize_at, block_size_at, config_of, config_values, hd_of, hd_section, hd_values, identifier_at, is_wide, number_at, plain_of, plain_values, section_fault, sector_at, size_at, sparse_head_fault, sparse_of, sparse_values, table_at, truth_at, unnamed_fault};
-ghost use Rattle.conf_keys.specs.Within.{IsHdWithin};
+ghost use Rattle.conf_keys.specs.Within.{IsFlashWithin, IsHdWithin, IsSizeFrom, IsSparseWithin};
 
 use crate::checking::{SectionFault, check, step};
 use crate::conf::{ConfigKeys, FlashSection, HdKeys, ImageKeys, PlainKeys, SparseKeys};
@@ -241,7 +241,9 @@ fn sparse_head_fault(head: &Head, settings: &[Setting]) -> Option<SectionFault>
     ensures { result ≡ sparse_head_fault head.now settings.now }
 {
     if last(settings, "image").is_none() {
-        return Some(SectionFault::BadValue { place: head.word.place });
+        return Some(SectionFault::BadValue {
+            place: head.word.place,
+        });
     }
     unnamed_fault(head)
 }
@@ -272,7 +274,9 @@ pub fn read_sparse(
     head: &Head,
     settings: &[Setting],
 ) -> Result<SparseKeys, SectionFault>
-    ensures { Answers (sparse_of head.now settings.now) result }
+    ensures keys { Answers (sparse_of head.now settings.now) result }
+    ensures within { IfOk result IsSparseWithin }
+    ensures image { IfOk result (λ keys. IsSome keys.image) }
 {
     match section_fault(sparse_head_fault(head, settings), Section::Sparse, settings) {
         Some(fault) => Err(fault),
@@ -317,7 +321,9 @@ fn flash_head_fault(head: &Head, settings: &[Setting]) -> Option<SectionFault>
     ensures { result ≡ flash_head_fault head.now settings.now }
 {
     if lacks_key(settings) || is_too_large(settings) {
-        return Some(SectionFault::BadValue { place: head.word.place });
+        return Some(SectionFault::BadValue {
+            place: head.word.place,
+        });
     }
     named_fault(head)
 }
@@ -345,7 +351,8 @@ pub fn read_flash(
     head: &Head,
     settings: &[Setting],
 ) -> Result<FlashSection, SectionFault>
-    ensures { Answers (flash_of head.now settings.now) result }
+    ensures keys { Answers (flash_of head.now settings.now) result }
+    ensures within { IfOk result IsFlashWithin }
 {
     match section_fault(flash_head_fault(head, settings), Section::Flash, settings) {
         Some(fault) => Err(fault),
@@ -375,7 +382,8 @@ pub fn item_fault(section: Section, item: &Setting) -> Option<SectionFault>
 
 /// The keys of an image itself, whose items have no fault. Takes memory.
 pub fn image_keys(alloc: Global, settings: &[Setting]) -> Result<ImageKeys, NoMemory>
-    ensures { IfOk result (λ keys. keys ≡ image_values settings.now) }
+    ensures keys { IfOk result (λ keys. keys ≡ image_values settings.now) }
+    ensures within { IfOk result (λ keys. IfSome keys.size (IsSizeFrom 0)) }
 {
     Ok(ImageKeys {
         size: size_at(settings, "size", 0),

@@ -1,6 +1,6 @@
 //! Texts against values, and settings against keys or the faulty place.
 use crate::checking::SectionFault;
-use crate::conf::{HdKeys, Hole};
+use crate::conf::{HdKeys, Hole, PlainKeys, SparseKeys};
 use crate::partitions::read_partition;
 use crate::sections::{
     check_device, image_head_fault, image_keys, item_fault, read_config, read_flash, read_hd,
@@ -120,7 +120,7 @@ fn types_of_partitions(rt: HostRuntime) -> Result<(), Fail> {
 // One key of a section: its name, whether it is `+=`, and the values, of which several are a list.
 type Row = (&'static str, bool, &'static [&'static str]);
 
-fn word(alloc: Global, text: &str, at: usize) -> Result<Word, NoMemory> {
+fn word(alloc: Global, text: &str, at: u64) -> Result<Word, NoMemory> {
     Ok(Word {
         text: Name::of(alloc, text)?,
         place: Place { text: 0, at },
@@ -128,13 +128,13 @@ fn word(alloc: Global, text: &str, at: usize) -> Result<Word, NoMemory> {
 }
 
 // The key stands at this place, its value or list at 1 behind it, and the values of a list from 2 on.
-fn setting(alloc: Global, row: &Row, at: usize) -> Result<Setting, NoMemory> {
+fn setting(alloc: Global, row: &Row, at: u64) -> Result<Setting, NoMemory> {
     let value = match row.2 {
         [only] => Value::One(word(alloc, only, at.wrapping_add(1))?),
         several => {
             let mut words = List::new(alloc);
             for (i, text) in several.iter().enumerate() {
-                words.push(word(alloc, text, at.wrapping_add(2).wrapping_add(i))?)?;
+                words.push(word(alloc, text, at.wrapping_add(2).wrapping_add(i as u64))?)?;
             }
             Value::Many(
                 Place {
@@ -159,7 +159,7 @@ fn setting(alloc: Global, row: &Row, at: usize) -> Result<Setting, NoMemory> {
 fn settings(alloc: Global, rows: &[Row]) -> Result<Vec<Setting>, NoMemory> {
     let mut settings = Vec::new(alloc);
     for (i, row) in rows.iter().enumerate() {
-        settings.push(setting(alloc, row, i.wrapping_mul(100))?)?;
+        settings.push(setting(alloc, row, (i as u64).wrapping_mul(100))?)?;
     }
     Ok(settings)
 }
@@ -171,18 +171,18 @@ fn head(alloc: Global, name: &str) -> Result<Head, NoMemory> {
         text => Some(word(alloc, text, 950)?),
     };
     Ok(Head {
-        word: Place { text: 0, at: 900 },
+        word: word(alloc, "section", 900)?,
         name,
     })
 }
 
-fn bad<Keys>(at: usize) -> Result<Keys, SectionFault> {
+fn bad<Keys>(at: u64) -> Result<Keys, SectionFault> {
     Err(SectionFault::BadValue {
         place: Place { text: 0, at },
     })
 }
 
-fn unknown<Keys>(at: usize) -> Result<Keys, SectionFault> {
+fn unknown<Keys>(at: u64) -> Result<Keys, SectionFault> {
     Err(SectionFault::UnknownKey {
         place: Place { text: 0, at },
     })
@@ -214,6 +214,7 @@ fn expect_hd(
 #[test]
 fn keys_of_a_disk_image(rt: HostRuntime) -> Result<(), Fail> {
     let alloc = rt.alloc();
+    assert_eq!(rt; HdKeys::defaults(), HD);
     expect_hd(&rt, alloc, &[], Ok(HD))?;
     expect_hd(
         &rt,
@@ -311,10 +312,12 @@ fn keys_of_the_other_sections(rt: HostRuntime) -> Result<(), Fail> {
     )?;
     let sparse = read_sparse(alloc, &plain, sparse.as_slice())?;
     assert_eq!(rt; sparse.block_size, 8_192);
+    assert_eq!(rt; SparseKeys::defaults().block_size, 4_096);
 
     let file = settings(alloc, &[("name", false, &["b.bin"])])?;
     let file = read_plain(alloc, &plain, file.as_slice())?;
     assert_eq!(rt; file.name.map(|name| name.text() == "b.bin"), Some(true));
+    assert!(rt; PlainKeys::defaults().name.is_none());
 
     let own = settings(alloc, &[("size", false, &["1G"]), ("empty", true, &["x"])])?;
     let image = image_keys(alloc, own.as_slice())?;

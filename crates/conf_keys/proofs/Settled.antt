@@ -1,0 +1,117 @@
+-- What a section's settings have where none of them has a fault.
+use Rattle.std.proofs.Common.{◌≡◌, ℕ, Bool, cond, true, false, List, [], ◌∷◌, Option, Some, None, Result, Ok, Err, refl, ◌∙◌, sym, ap}
+use mathlib.Core.List.{reverse_aux}
+use Rattle.std.specs.Prelude.{All, IfSome, find, is_none, option_and_then, reverse, IsSomeAnd}
+use Rattle.std.specs.Option.{option_or}
+use Rattle.std.proofs.lemmas.List.Elements.{All-cons, All-head, All-nil, All-tail}
+use Rattle.std.proofs.lemmas.Slice.Eq.{bytes_eq-Decides}
+use Rattle.conf_items.specs.declared.items.Value.TheVariants.{One, Many}
+use Rattle.conf_items.specs.declared.items.Given.{Given}
+use Rattle.conf_items.specs.declared.items.Given.TheVariants as given
+use Rattle.conf_items.specs.declared.items.Setting.{Setting}
+use Rattle.conf_items.specs.declared.items.Word.{Word}
+use Rattle.conf_keys.specs.declared.checking.SectionFault.{SectionFault}
+use Rattle.conf_keys.specs.declared.checking.SectionFault.TheVariants.{UnknownKey}
+use Rattle.conf_keys.specs.declared.settings.Section.{Section}
+use Rattle.conf_keys.specs.declared.settings.Shape.{Shape}
+use Rattle.conf_keys.specs.Checking.{chained, checked, given_step, held_from, keyed_step, one_fault, refused, shaped_step, step_of}
+use Rattle.conf_keys.specs.Sections.{fault_in, is_lacking, section_fault}
+use Rattle.conf_keys.specs.Settings.{fits, given_text, has_key, last_of, last_text, shape_of, takes_sections, text_of}
+
+-- ---- no fault
+
+pub chained_ok : {A B : Type 0} (next : A → Result B SectionFault) (r : Result A SectionFault) (after : B) → chained next r ≡ Ok after
+    → (middle : A) × (r ≡ Ok middle) × (next middle ≡ Ok after)
+chained_ok next (Ok middle) after e = (middle, refl, e)
+chained_ok next (Err fault) after e = absurd (cc)
+
+pub neither : {X : Type 0} (a b : Option X) → None ≡ option_or a b → (None ≡ a) × (None ≡ b)
+neither None b e = (refl, e)
+neither (Some x) b e = absurd (cc)
+
+no_fault : (r : Result ℕ SectionFault) → None ≡ fault_in r → (held : ℕ) × (r ≡ Ok held)
+no_fault (Ok held) e = (held, refl)
+no_fault (Err fault) e = absurd (cc)
+
+-- a section without a fault has none at its head, and all its settings pass
+pub faultless : (head : Option SectionFault) (whose : Section) (settings : List Setting) → None ≡ section_fault head whose settings
+    → (None ≡ head) × ((held : ℕ) × (held_from whose settings 0 ≡ Ok held))
+faultless head whose settings e =
+    let both = neither head (fault_in (checked whose settings)) e in
+    (both.0, no_fault (checked whose settings) both.1)
+
+abbrev pub Passes : Section → Setting → Type 0
+Passes whose setting = (held : ℕ) × (after : ℕ) × (step_of whose held setting ≡ Ok after)
+
+pub all_pass : (whose : Section) (settings : List Setting) (held after : ℕ) → held_from whose settings held ≡ Ok after → All (Passes whose) settings
+all_pass whose [] held after e = All-nil (Passes whose)
+all_pass whose (setting ∷ rest) held after e =
+    let step = chained_ok (held_from whose rest) (step_of whose held setting) after e in
+    All-cons (Passes whose) setting rest (held, step.0, step.1) (all_pass whose rest step.0 after step.2)
+
+-- ---- the last setting of a key
+
+All-aux : {X : Type 0} (P : X → Type 0) (xs onto : List X) → All P xs → All P onto → All P (reverse_aux xs onto)
+All-aux P [] onto h k = k
+All-aux P (x ∷ xs) onto h k = All-aux P xs (x ∷ onto) (All-tail P x xs h) (All-cons P x onto (All-head P x xs h) k)
+
+first_gives : {X : Type 0} (test : X → Bool) (P : X → Type 0) (x : X) (next : Option X) → P x → IfSome next (λ x. (test x ≡ true) × P x)
+    → IfSome (cond (test x) (Some x) next) (λ x. (test x ≡ true) × P x)
+first_gives test P x next h k = at (test x) refl
+  where
+    at : (b : Bool) → test x ≡ b → IfSome (cond b (Some x) next) (λ x. (test x ≡ true) × P x)
+    at true e = (e, h)
+    at false e = k
+
+find_gives : {X : Type 0} (test : X → Bool) (P : X → Type 0) (xs : List X) → All P xs → IfSome (find test xs) (λ x. (test x ≡ true) × P x)
+find_gives test P [] h = tt
+find_gives test P (x ∷ xs) h = first_gives test P x (find test xs) (All-head P x xs h) (find_gives test P xs (All-tail P x xs h))
+
+last_gives : (key : List ℕ) (P : Setting → Type 0) (settings : List Setting) → All P settings → IfSome (last_of key settings) (λ setting. (has_key key setting ≡ true) × P setting)
+last_gives key P settings h = find_gives (has_key key) P (reverse settings) (All-aux P settings [] h (All-nil P))
+
+-- ---- a key with single values
+
+-- the shape is one of single values
+abbrev pub IsSingle : Shape → Type 0
+IsSingle form = (held : ℕ) (what : Given) → shaped_step held form what ≡ refused held (one_fault form what)
+
+abbrev pub IsFitting : Shape → Option (List ℕ) → Type 0
+IsFitting form found = IsSomeAnd found (λ text. fits form text ≡ true)
+
+fits_from : (fits : Bool) (held after : ℕ) (fault : SectionFault) → refused held (cond fits None (Some fault)) ≡ Ok after → fits ≡ true
+fits_from true held after fault e = refl
+fits_from false held after fault e = absurd (cc)
+
+single_step : (whose : Section) (form : Shape) (key : Word) (held after : ℕ) (what : Given) → shape_of whose key.text ≡ Some form → IsSingle form
+    → keyed_step held key.place (shape_of whose key.text) what ≡ Ok after → refused held (one_fault form what) ≡ Ok after
+single_step whose form key held after what shape single e = sym (single held what) ∙ (sym (ap (λ found. keyed_step held key.place found what) shape) ∙ e)
+
+given_fits : (whose : Section) (form : Shape) (key : Word) (held after : ℕ) (what : Given) → takes_sections whose ≡ false → shape_of whose key.text ≡ Some form → IsSingle form
+    → given_step whose held key what ≡ Ok after → IsFitting form (given_text what)
+given_fits whose form key held after (given.Set (One word)) none shape single e =
+    fits_from (fits form word.text) held after _ (single_step whose form key held after (given.Set (One word)) shape single e)
+given_fits whose form key held after (given.Set (Many place words)) none shape single e =
+    let fails = single_step whose form key held after (given.Set (Many place words)) shape single e in absurd (cc)
+given_fits whose form key held after (given.Added value) none shape single e =
+    let fails = single_step whose form key held after (given.Added value) shape single e in absurd (cc)
+given_fits whose form key held after given.Section none shape single e =
+    let fails = sym (ap (λ taken. cond taken (Ok held) (Err (UnknownKey key.place))) none) ∙ e in absurd (cc)
+
+pub key_is : (key : List ℕ) (setting : Setting) → has_key key setting ≡ true → setting.key.text ≡ key
+key_is key setting e = (bytes_eq-Decides setting.key.text key).0 e
+
+setting_fits : (whose : Section) (form : Shape) (key : List ℕ) (setting : Setting) → takes_sections whose ≡ false → shape_of whose key ≡ Some form → IsSingle form
+    → has_key key setting ≡ true → Passes whose setting → IsFitting form (text_of setting)
+setting_fits whose form key setting none shape single has passes =
+    given_fits whose form setting.key passes.0 passes.1 setting.given none (ap (shape_of whose) (key_is key setting has) ∙ shape) single passes.2
+
+-- a key that isn't lacking has a single value that fits, in a section of which no setting has a fault
+pub last_fits : (whose : Section) (form : Shape) (key : List ℕ) (settings : List Setting) (held : ℕ) → takes_sections whose ≡ false → shape_of whose key ≡ Some form → IsSingle form
+    → held_from whose settings 0 ≡ Ok held → is_lacking key settings ≡ false → IsFitting form (last_text key settings)
+last_fits whose form key settings held none shape single faultless lacking =
+    at (last_of key settings) (last_gives key (Passes whose) settings (all_pass whose settings 0 held faultless)) lacking
+  where
+    at : (last : Option Setting) → IfSome last (λ setting. (has_key key setting ≡ true) × Passes whose setting) → is_none last ≡ false → IsFitting form (option_and_then text_of last)
+    at None h e = absurd (cc)
+    at (Some setting) h e = setting_fits whose form key setting none shape single h.0 h.1
