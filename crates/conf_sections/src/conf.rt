@@ -6,7 +6,7 @@ ghost use Rattle.conf_sections.specs.Conf.{conf_of, config_section, flash_sectio
 
 use crate::image::image_of;
 use base_fields::{List, Name};
-use conf_items::{TopItem, TopSection};
+use conf_items::{Place, TopItem, TopSection};
 use conf_keys::{Conf, ConfigKeys, SectionFault, read_config, read_flash};
 use std::alloc::Global;
 
@@ -34,7 +34,6 @@ fn config_section(
     Ok(with_config(conf, keys))
 }
 
-#[tactic(auto, using(crate::proofs::Growing::flash_within))]
 fn flash_section(
     alloc: Global,
     mut conf: Conf,
@@ -49,7 +48,6 @@ fn flash_section(
     Ok(conf)
 }
 
-#[tactic(auto, using(crate::proofs::Growing::image_within))]
 fn image_section(
     alloc: Global,
     mut conf: Conf,
@@ -64,6 +62,13 @@ fn image_section(
     Ok(conf)
 }
 
+// No such section or option may stand at the top.
+fn unknown(place: Place) -> Result<Conf, SectionFault>
+    ensures { result ≡ Err (SectionFault.UnknownKey place) }
+{
+    Err(SectionFault::UnknownKey { place })
+}
+
 fn with_section(alloc: Global, conf: Conf, section: &TopSection) -> Result<Conf, SectionFault>
     requires { IsWithin conf }
     ensures answers { Answers (with_section conf section.now) result }
@@ -73,22 +78,17 @@ fn with_section(alloc: Global, conf: Conf, section: &TopSection) -> Result<Conf,
         "config" => config_section(alloc, conf, section),
         "flash" => flash_section(alloc, conf, section),
         "image" => image_section(alloc, conf, section),
-        _ => Err(SectionFault::UnknownKey {
-            place: section.head.word.place,
-        }),
+        _ => unknown(section.head.word.place),
     }
 }
 
-// No option stands at the top.
 fn with_item(alloc: Global, conf: Conf, item: &TopItem) -> Result<Conf, SectionFault>
     requires { IsWithin conf }
     ensures answers { Answers (with_item conf item.now) result }
     ensures within { IfOk result IsWithin }
 {
     match item {
-        TopItem::Setting(setting) => Err(SectionFault::UnknownKey {
-            place: setting.key.place,
-        }),
+        TopItem::Setting(setting) => unknown(setting.key.place),
         TopItem::Section(section) => with_section(alloc, conf, section),
     }
 }

@@ -1,10 +1,10 @@
 //! An image, from its items in order.
-ghost use Rattle.std.specs.Prelude.{◌≡◌, ◌≤◌, [], IfOk, IsSome, length};
-ghost use Rattle.conf_keys.specs.Sections.{Answers, answer, hd_values, name_text, named_fault};
-ghost use Rattle.conf_keys.specs.Within.{IsImageWithin, IsHdWithin};
+ghost use Rattle.std.specs.Prelude.{◌≡◌, ◌≤◌, IfOk, IsSome, length};
+ghost use Rattle.conf_keys.specs.Sections.{Answers, answer, name_text, named_fault};
+ghost use Rattle.conf_keys.specs.Within.{IsImageWithin};
 ghost use Rattle.conf_sections.specs.Image.{counted, image_named, image_of, is_image_made, is_made, is_partition, keyed, keys_of, kind_of, left_behind, of_kind, origin_of, read_as, taken, with_item, with_items, with_key, with_keys, with_kind, with_partition, with_section};
 
-use base_fields::{List, Name, TableKind};
+use base_fields::{List, Name};
 use conf_items::{Given, Head, Setting, Subsection, TopSection};
 use conf_keys::{
     HdKeys, ImageSection, Kind, PlainKeys, Section, SectionFault, SparseKeys, check_device,
@@ -136,7 +136,6 @@ fn with_kind(
     Ok(of_kind(kind, after)?)
 }
 
-#[tactic(auto, using(crate::proofs::Growing::part_within))]
 fn with_partition(
     alloc: Global,
     mut image: ImageSection,
@@ -282,23 +281,6 @@ fn name_of(alloc: Global, head: &Head) -> Result<Name, SectionFault>
     Ok(name)
 }
 
-fn hd_defaults() -> HdKeys
-    ensures made { result ≡ hd_values [] }
-    ensures within { IsHdWithin result }
-{
-    HdKeys {
-        align: None,
-        partition_table_type: TableKind::Mbr,
-        extended_partition: 0,
-        disk_signature: 0,
-        disk_uuid: None,
-        gpt_location: 1024,
-        gpt_no_backup: false,
-        fill: false,
-        sector_size: 512,
-    }
-}
-
 // An image with nothing but a name. Takes no memory.
 fn image_named(alloc: Global, name: Name) -> ImageSection
     requires { 1 ≤ length name }
@@ -310,9 +292,9 @@ fn image_named(alloc: Global, name: Name) -> ImageSection
         kinds: List::new(alloc),
         size: None,
         flashtype: None,
-        hd: hd_defaults(),
-        sparse: SparseKeys { image: None, block_size: 4096 },
-        plain: PlainKeys { name: None },
+        hd: HdKeys::defaults(),
+        sparse: SparseKeys::defaults(),
+        plain: PlainKeys::defaults(),
         parts: List::new(alloc),
     }
 }
