@@ -21,11 +21,7 @@ fn with_config(mut conf: Conf, keys: ConfigKeys) -> Conf
     conf
 }
 
-fn config_section(
-    alloc: Global,
-    conf: Conf,
-    section: &TopSection,
-) -> Result<Conf, SectionFault>
+fn config_section(alloc: Global, conf: Conf, section: &TopSection) -> Result<Conf, SectionFault>
     requires { IsWithin conf }
     ensures answers { Answers (config_section conf section.now) result }
     ensures within { IfOk result IsWithin }
@@ -34,25 +30,19 @@ fn config_section(
     Ok(with_config(conf, keys))
 }
 
-fn flash_section(
-    alloc: Global,
-    mut conf: Conf,
-    section: &TopSection,
-) -> Result<Conf, SectionFault>
+fn flash_section(alloc: Global, mut conf: Conf, section: &TopSection) -> Result<Conf, SectionFault>
     requires { IsWithin conf }
     ensures answers { Answers (flash_section conf section.now) result }
     ensures within { IfOk result IsWithin }
 {
     let flash = read_flash(alloc, &section.head, section.settings.as_slice())?;
-    conf.flashes.push(flash).map_err(|_| SectionFault::NoMemory)?;
+    conf.flashes
+        .push(flash)
+        .map_err(|_| SectionFault::NoMemory)?;
     Ok(conf)
 }
 
-fn image_section(
-    alloc: Global,
-    mut conf: Conf,
-    section: &TopSection,
-) -> Result<Conf, SectionFault>
+fn image_section(alloc: Global, mut conf: Conf, section: &TopSection) -> Result<Conf, SectionFault>
     requires { IsWithin conf }
     ensures answers { Answers (image_section conf section.now) result }
     ensures within { IfOk result IsWithin }
@@ -93,11 +83,7 @@ fn with_item(alloc: Global, conf: Conf, item: &TopItem) -> Result<Conf, SectionF
     }
 }
 
-fn with_items(
-    alloc: Global,
-    mut conf: Conf,
-    items: &[TopItem],
-) -> Result<Conf, SectionFault>
+fn with_items(alloc: Global, mut conf: Conf, items: &[TopItem]) -> Result<Conf, SectionFault>
     requires { IsWithin conf }
     ensures answers { Answers (with_items items.now conf) result }
     ensures within { IfOk result IsWithin }

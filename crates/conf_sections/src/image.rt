@@ -321,11 +321,7 @@ fn with_keys(
 }
 
 // An image of that origin, or its first fault.
-fn read_as(
-    alloc: Global,
-    origin: Origin,
-    top: &TopSection,
-) -> Result<ImageSection, SectionFault>
+fn read_as(alloc: Global, origin: Origin, top: &TopSection) -> Result<ImageSection, SectionFault>
     ensures answers { Answers (read_as origin top.now) result }
     ensures within { IfOk result IsImageWithin }
 {
