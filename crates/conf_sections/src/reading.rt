@@ -42,17 +42,22 @@ fn item_fault(alloc: Global, names: &[Name], fault: SectionFault) -> ConfFault
     ensures named { Refuses (Err (item_fault names.now fault)) result }
     ensures of_items { IsOfItems result }
 {
-    let place = match fault {
-        SectionFault::UnknownKey { place } | SectionFault::BadValue { place } => place,
-        SectionFault::NoMemory => return ConfFault::NoMemory,
-    };
-    let Ok(name) = text_name(alloc, names, place) else {
-        return ConfFault::NoMemory;
-    };
-    let place = place.at;
     match fault {
-        SectionFault::UnknownKey { .. } => ConfFault::UnknownKey { name, place },
-        _ => ConfFault::BadValue { name, place },
+        SectionFault::UnknownKey { place } => match text_name(alloc, names, place) {
+            Ok(name) => ConfFault::UnknownKey {
+                name,
+                place: place.at,
+            },
+            Err(NoMemory) => ConfFault::NoMemory,
+        },
+        SectionFault::BadValue { place } => match text_name(alloc, names, place) {
+            Ok(name) => ConfFault::BadValue {
+                name,
+                place: place.at,
+            },
+            Err(NoMemory) => ConfFault::NoMemory,
+        },
+        SectionFault::NoMemory => ConfFault::NoMemory,
     }
 }
 
