@@ -1,5 +1,5 @@
 -- What the items at the top say together, or the first item that has another key or value.
-use Rattle.std.specs.Prelude.{ℕ, Bool, List, [], ◌∷◌, ◌++◌, Option, Some, None, unwrap_or, Result, Ok, Err, codes, if◌then◌else◌}
+use Rattle.std.specs.Prelude.{ℕ, Bool, List, [], ◌∷◌, ◌++◌, unwrap_or, Result, Ok, Err, codes, if◌then◌else◌}
 use Rattle.std.specs.Str.{bytes_eq}
 use Rattle.conf_items.specs.declared.outline.TopItem.{TopItem}
 use Rattle.conf_items.specs.declared.outline.TopItem.TheVariants as top
@@ -44,9 +44,8 @@ abbrev pub with_items : List TopItem → Conf → Result Conf SectionFault
 with_items [] conf = Ok conf
 with_items (item ∷ rest) conf = with_item conf item >>= with_items rest
 
--- nothing but the names of the texts
-abbrev pub conf_named : List (List ℕ) → Conf
-conf_named names = record { input = []; output = []; flashes = []; images = []; texts = names }
+abbrev pub nothing_said : Conf
+nothing_said = record { input = []; output = []; flashes = []; images = []; texts = [] }
 
-abbrev pub conf_of : List TopItem → List (List ℕ) → Result Conf SectionFault
-conf_of items names = with_items items (conf_named names)
+abbrev pub conf_of : List TopItem → Result Conf SectionFault
+conf_of items = with_items items nothing_said

@@ -36,8 +36,11 @@ item_fault names (section.UnknownKey place) = UnknownKey (text_name names place)
 item_fault names (section.BadValue place) = BadValue (text_name names place) place.at
 item_fault names section.NoMemory = NoMemory
 
+abbrev pub with_names : List (List ℕ) → Conf → Conf
+with_names names conf = record conf { texts = names }
+
 abbrev pub said : Texts → Result Conf ConfFault
-said texts = refused_by (item_fault texts.names) (conf_of texts.items texts.names)
+said texts = refused_by (item_fault texts.names) (conf_of texts.items) >>= λ conf. Ok (with_names texts.names conf)
 
 -- all texts are read first, and then the keys and values are looked at in order
 abbrev pub resolved : List Pair → Tree → List ℕ → Result Conf ConfFault
@@ -52,6 +55,13 @@ Refuses wanted fault = wanted ≡ Err fault
 abbrev pub Answers : Result Conf ConfFault → Result Conf ConfFault → Type 0
 Answers wanted (Ok conf) = wanted ≡ Ok conf
 Answers wanted (Err fault) = Refuses wanted fault
+
+-- what a key or a value is refused by, and want of memory: no refusal of the files or the walk
+abbrev pub IsOfItems : ConfFault → Type 0
+IsOfItems (UnknownKey name place) = Unit {0}
+IsOfItems (BadValue name place) = Unit {0}
+IsOfItems NoMemory = Unit {0}
+IsOfItems other = ⊥
 
 -- a refusal of the files comes only where its count rose
 abbrev pub HasCause : Counts → Counts → ConfFault → Type 0

@@ -2,7 +2,9 @@
 //! its sections, or the first thing that is refused.
 #![tactic(auto)]
 
+mod conf;
 mod fault;
+mod image;
 mod reading;
 
 pub use conf_keys::{
@@ -11,3 +13,6 @@ pub use conf_keys::{
 pub use conf_walk::Vars;
 pub use fault::ConfFault;
 pub use reading::read_conf;
+
+#[cfg(test)]
+mod tests;

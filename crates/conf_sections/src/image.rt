@@ -1,0 +1,339 @@
+//! An image, from its items in order.
+ghost use Rattle.std.specs.Prelude.{◌≡◌, ◌≤◌, IfOk, IsSome, length};
+ghost use Rattle.conf_keys.specs.Sections.{Answers, answer, name_text, named_fault};
+ghost use Rattle.conf_keys.specs.Within.{IsImageWithin};
+ghost use Rattle.conf_sections.specs.Image.{counted, image_named, image_of, is_image_made, is_made, is_partition, keyed, keys_of, kind_of, left_behind, of_kind, origin_of, read_as, taken, with_item, with_items, with_key, with_keys, with_kind, with_partition, with_section};
+
+use base_fields::{List, Name};
+use conf_items::{Given, Head, Setting, Subsection, TopSection};
+use conf_keys::{
+    HdKeys, ImageSection, Kind, PlainKeys, Section, SectionFault, SparseKeys, check_device,
+    image_head_fault, image_keys, item_fault, read_hd, read_partition, read_plain, read_sparse,
+};
+use std::alloc::Global;
+
+/// Where the file of an image comes from.
+#[derive(Clone, Copy, Debug, PartialEq, Eq)]
+pub(crate) enum Origin {
+    /// It is made from the image's section, of which all is looked at.
+    Made,
+    /// It is made elsewhere, and the image's section is read for syntax alone.
+    Ready,
+}
+
+impl Origin {
+    // Whose keys those of the image itself are.
+    fn keys(self) -> Section
+        ensures { result ≡ keys_of self }
+    {
+        match self {
+            Origin::Made => Section::Image,
+            Origin::Ready => Section::Ready,
+        }
+    }
+}
+
+fn kind_of(word: &str) -> Kind
+    ensures { result ≡ kind_of word.now }
+{
+    match word {
+        "hdimage" => Kind::Hd,
+        "flash" => Kind::Flash,
+        "android-sparse" => Kind::Sparse,
+        "file" => Kind::Plain,
+        _ => Kind::Ready,
+    }
+}
+
+fn is_made(kind: Kind) -> bool
+    ensures { result ≡ is_made kind }
+{
+    kind != Kind::Ready
+}
+
+fn is_partition(inner: &Subsection) -> bool
+    ensures { result ≡ is_partition inner.now }
+{
+    inner.head.word.text.text() == "partition"
+}
+
+fn is_image_made(sections: &[Subsection]) -> bool
+    ensures { result ≡ is_image_made sections.now }
+{
+    sections
+        .iter()
+        .any(|inner| is_made(kind_of(inner.head.word.text.text())))
+}
+
+fn origin_of(sections: &[Subsection]) -> Origin
+    ensures { result ≡ origin_of sections.now }
+{
+    if is_image_made(sections) {
+        Origin::Made
+    } else {
+        Origin::Ready
+    }
+}
+
+// ---- a section inside
+
+// The image with the keys of a section of that kind, or the section's first fault.
+fn keyed(
+    alloc: Global,
+    mut image: ImageSection,
+    inner: &Subsection,
+    kind: Kind,
+) -> Result<ImageSection, SectionFault>
+    requires { IsImageWithin image }
+    ensures answers { Answers (keyed image inner.now kind) result }
+    ensures within { IfOk result IsImageWithin }
+    ensures sparse { kind ≡ Kind.Sparse → IfOk result (λ after. IsSome after.sparse.image) }
+{
+    let settings = inner.settings.as_slice();
+    match kind {
+        Kind::Hd => {
+            image.hd = read_hd(&inner.head, settings)?;
+            Ok(image)
+        }
+        Kind::Flash => match check_device(&inner.head, settings) {
+            Some(fault) => Err(fault),
+            None => Ok(image),
+        },
+        Kind::Sparse => {
+            image.sparse = read_sparse(alloc, &inner.head, settings)?;
+            Ok(image)
+        }
+        Kind::Plain => {
+            image.plain = read_plain(alloc, &inner.head, settings)?;
+            Ok(image)
+        }
+        Kind::Ready => Ok(image),
+    }
+}
+
+#[tactic(auto, using(crate::proofs::Growing::kind_within))]
+fn of_kind(kind: Kind, mut image: ImageSection) -> Result<ImageSection, SectionFault>
+    requires within { IsImageWithin image }
+    requires sparse { kind ≡ Kind.Sparse → IsSome image.sparse.image }
+    ensures answers { Answers (Ok (of_kind kind image)) result }
+    ensures within { IfOk result IsImageWithin }
+{
+    image.kinds.push(kind).map_err(|_| SectionFault::NoMemory)?;
+    Ok(image)
+}
+
+fn with_kind(
+    alloc: Global,
+    image: ImageSection,
+    inner: &Subsection,
+    kind: Kind,
+) -> Result<ImageSection, SectionFault>
+    requires { IsImageWithin image }
+    ensures answers { Answers (with_kind image inner.now kind) result }
+    ensures within { IfOk result IsImageWithin }
+{
+    let after = keyed(alloc, image, inner, kind)?;
+    Ok(of_kind(kind, after)?)
+}
+
+fn with_partition(
+    alloc: Global,
+    mut image: ImageSection,
+    inner: &Subsection,
+) -> Result<ImageSection, SectionFault>
+    requires { IsImageWithin image }
+    ensures answers { Answers (with_partition image inner.now) result }
+    ensures within { IfOk result IsImageWithin }
+{
+    let keys = read_partition(alloc, &inner.head, inner.settings.as_slice())?;
+    image.parts.push(keys).map_err(|_| SectionFault::NoMemory)?;
+    Ok(image)
+}
+
+fn with_section(
+    alloc: Global,
+    image: ImageSection,
+    inner: &Subsection,
+) -> Result<ImageSection, SectionFault>
+    requires { IsImageWithin image }
+    ensures answers { Answers (with_section image inner.now) result }
+    ensures within { IfOk result IsImageWithin }
+{
+    if is_partition(inner) {
+        with_partition(alloc, image, inner)
+    } else {
+        with_kind(alloc, image, inner, kind_of(inner.head.word.text.text()))
+    }
+}
+
+// A section inside of an image that is read for syntax alone.
+fn counted(image: ImageSection, inner: &Subsection) -> Result<ImageSection, SectionFault>
+    requires { IsImageWithin image }
+    ensures answers { Answers (Ok (counted image inner.now)) result }
+    ensures within { IfOk result IsImageWithin }
+{
+    if is_partition(inner) {
+        Ok(image)
+    } else {
+        of_kind(Kind::Ready, image)
+    }
+}
+
+fn taken(
+    alloc: Global,
+    origin: Origin,
+    image: ImageSection,
+    inner: &Subsection,
+) -> Result<ImageSection, SectionFault>
+    requires { IsImageWithin image }
+    ensures answers { Answers (taken origin image inner.now) result }
+    ensures within { IfOk result IsImageWithin }
+{
+    match origin {
+        Origin::Made => with_section(alloc, image, inner),
+        Origin::Ready => counted(image, inner),
+    }
+}
+
+// ---- all items in order
+
+fn with_key(
+    origin: Origin,
+    image: ImageSection,
+    setting: &Setting,
+) -> Result<ImageSection, SectionFault>
+    requires { IsImageWithin image }
+    ensures answers { result ≡ with_key origin image setting.now }
+    ensures within { IfOk result IsImageWithin }
+{
+    match item_fault(origin.keys(), setting) {
+        Some(fault) => Err(fault),
+        None => Ok(image),
+    }
+}
+
+// The image with one item, where these sections are left.
+fn with_item(
+    alloc: Global,
+    origin: Origin,
+    image: ImageSection,
+    setting: &Setting,
+    sections: &[Subsection],
+) -> Result<ImageSection, SectionFault>
+    requires { IsImageWithin image }
+    ensures answers { Answers (with_item origin image setting.now sections.now) result }
+    ensures within { IfOk result IsImageWithin }
+{
+    match (&setting.given, sections) {
+        (Given::Section, [inner, ..]) => taken(alloc, origin, image, inner),
+        _ => with_key(origin, image, setting),
+    }
+}
+
+// The sections that are left behind an item.
+fn left_behind<'a>(setting: &Setting, sections: &'a [Subsection]) -> &'a [Subsection]
+    ensures { result.now ≡ left_behind setting.now.given sections.now }
+{
+    match (&setting.given, sections) {
+        (Given::Section, [_, rest @ ..]) => rest,
+        _ => sections,
+    }
+}
+
+fn with_items(
+    alloc: Global,
+    origin: Origin,
+    mut image: ImageSection,
+    top: &TopSection,
+) -> Result<ImageSection, SectionFault>
+    requires { IsImageWithin image }
+    ensures answers { Answers (with_items origin top.now.settings top.now.sections image) result }
+    ensures within { IfOk result IsImageWithin }
+{
+    let mut sections = top.sections.as_slice();
+    for setting in top.settings.as_slice() {
+        image = with_item(alloc, origin, image, setting, sections)?;
+        sections = left_behind(setting, sections);
+    }
+    Ok(image)
+}
+
+// ---- an image
+
+fn name_text(head: &Head) -> &str
+    ensures { result.now ≡ name_text head.now }
+{
+    match &head.name {
+        Some(name) => name.text.text(),
+        None => "",
+    }
+}
+
+// The name of an image, or the fault of its head.
+fn name_of(alloc: Global, head: &Head) -> Result<Name, SectionFault>
+    ensures answers { Answers (answer (named_fault head.now) (name_text head.now)) result }
+    ensures within { IfOk result (λ name. 1 ≤ length name) }
+{
+    if let Some(fault) = image_head_fault(head) {
+        return Err(fault);
+    }
+    let name = Name::of(alloc, name_text(head)).map_err(|_| SectionFault::NoMemory)?;
+    Ok(name)
+}
+
+// An image with nothing but a name. Takes no memory.
+fn image_named(alloc: Global, name: Name) -> ImageSection
+    requires { 1 ≤ length name }
+    ensures made { result ≡ image_named name }
+    ensures within { IsImageWithin result }
+{
+    ImageSection {
+        name,
+        kinds: List::new(alloc),
+        size: None,
+        flashtype: None,
+        hd: HdKeys::defaults(),
+        sparse: SparseKeys::defaults(),
+        plain: PlainKeys::defaults(),
+        parts: List::new(alloc),
+    }
+}
+
+fn with_keys(
+    alloc: Global,
+    origin: Origin,
+    settings: &[Setting],
+    mut image: ImageSection,
+) -> Result<ImageSection, SectionFault>
+    requires { IsImageWithin image }
+    ensures answers { Answers (Ok (with_keys origin settings.now image)) result }
+    ensures within { IfOk result IsImageWithin }
+{
+    match origin {
+        Origin::Made => {
+            let keys = image_keys(alloc, settings).map_err(|_| SectionFault::NoMemory)?;
+            image.size = keys.size;
+            image.flashtype = keys.flashtype;
+            Ok(image)
+        }
+        Origin::Ready => Ok(image),
+    }
+}
+
+// An image of that origin, or its first fault.
+fn read_as(alloc: Global, origin: Origin, top: &TopSection) -> Result<ImageSection, SectionFault>
+    ensures answers { Answers (read_as origin top.now) result }
+    ensures within { IfOk result IsImageWithin }
+{
+    let name = name_of(alloc, &top.head)?;
+    let whole = with_items(alloc, origin, image_named(alloc, name), top)?;
+    Ok(with_keys(alloc, origin, top.settings.as_slice(), whole)?)
+}
+
+/// An image, or its first fault: that of its name, and then those of its items in order. Takes memory.
+pub(crate) fn image_of(alloc: Global, top: &TopSection) -> Result<ImageSection, SectionFault>
+    ensures answers { Answers (image_of top.now) result }
+    ensures within { IfOk result IsImageWithin }
+{
+    read_as(alloc, origin_of(top.sections.as_slice()), top)
+}
