@@ -5,7 +5,7 @@ use Rattle.outside.specs.declared.bench.Dev.{Dev}
 use Rattle.outside.specs.Calls.{Calls}
 use Rattle.outside.specs.Disk.{Disk}
 use Rattle.outside.specs.History.{Log, disk_of}
-use Rattle.outside.specs.Leaving.{is_pending_at, kept_image, pending_of, settled_both}
+use Rattle.outside.specs.Leaving.{is_pending_at, kept_image, pending_of, settled_both, torn_calls}
 use Rattle.outside.specs.MemBench.{meter_of}
 use Rattle.outside.specs.Meter.{Both, Meter}
 
@@ -51,6 +51,10 @@ pending_in story = pending_of (settled_both story.log.calls) story.log.calls
 -- a place of a device lies in a pending write
 abbrev pub IsPendingAt : Story → Dev → ℕ → Type 0
 IsPendingAt story dev at = IsTrue (is_pending_at (settled_both story.log.calls) dev at story.log.calls)
+
+-- the story where the last pending write that covers a place of a device is found with this byte there
+abbrev pub torn_story : Story → Dev → ℕ → ℕ → Story
+torn_story story dev at byte = record story { log = record story.log { calls = torn_calls (settled_both story.log.calls) dev at byte story.log.calls } }
 
 -- what the devices read and may leave, and what is counted
 abbrev pub disk_in : MemBench → Disk

@@ -29,7 +29,7 @@ pub struct MemBench {
 
 impl MemBench {
     ghost use Rattle.outside.specs.Calls.{listing, unused};
-    ghost use Rattle.outside.specs.MemBenchCalls.{IsPendingAt, calls_of, kept_of, passing_of, pending_in, story_of, untouched, uncounted};
+    ghost use Rattle.outside.specs.MemBenchCalls.{IsPendingAt, calls_of, kept_of, passing_of, pending_in, story_of, torn_story, untouched, uncounted};
 
     /// The two devices with these bytes, all of them on the disk, both attached without a name. All memory that
     /// later calls need is taken here: `room` bytes for the record of the calls and as many for their bytes, and
@@ -96,6 +96,7 @@ impl MemBench {
     #[tactic(auto, using(crate::proofs::TearLemmas::alike_reads, crate::proofs::TearLemmas::alike_names, crate::proofs::TearLemmas::alike_stays, crate::proofs::TearLemmas::alike_images))]
     pub fn tear(&mut self, dev: Dev, at: u64, byte: u8)
         requires { IsPendingAt (story_of self.old) dev at }
+        ensures torn { story_of self.new ≡ torn_story (story_of self.old) dev at byte }
         ensures reads { (each : Dev) → (⟦<MemBench as Bench>⟧.disk self.new).reads each ≡ (⟦<MemBench as Bench>⟧.disk self.old).reads each }
         ensures stays { (each : Dev) → StillLeaves each (⟦<MemBench as Bench>⟧.disk self.old) (⟦<MemBench as Bench>⟧.disk self.new) }
         ensures no_more { (each : Dev) → StillLeaves each (⟦<MemBench as Bench>⟧.disk self.new) (⟦<MemBench as Bench>⟧.disk self.old) }
