@@ -4,7 +4,7 @@ use Rattle.outside.specs.declared.mem_bench.MemBench.{MemBench}
 use Rattle.outside.specs.declared.bench.Dev.{Dev}
 use Rattle.outside.specs.Calls.{Calls}
 use Rattle.outside.specs.Disk.{Disk}
-use Rattle.outside.specs.History.{Log, disk_of}
+use Rattle.outside.specs.History.{Effect, Log, disk_of, logged}
 use Rattle.outside.specs.Leaving.{is_pending_at, kept_image, pending_of, settled_both, torn_calls}
 use Rattle.outside.specs.MemBench.{meter_of}
 use Rattle.outside.specs.Meter.{Both, Meter}
@@ -28,6 +28,10 @@ story_of bench = record { first = record { target = bench.first_target.items; jo
 -- the story of two devices that no call has met
 abbrev pub untouched : List ℕ → List ℕ → ℕ → Story
 untouched target journal room = record { first = record { target = target; journal = journal }; log = record { calls = []; used = 0; room = room } }
+
+-- the story with one more call of a device, which used so much of the room
+abbrev pub story_after : Story → Dev → Effect → ℕ → Story
+story_after story dev effect cost = record story { log = logged story.log (record { dev = dev; effect = effect }) cost }
 
 -- what is counted before any call
 abbrev pub uncounted : ℕ → Meter

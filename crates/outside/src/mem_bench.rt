@@ -151,8 +151,8 @@ impl Bench for MemBench {
     ghost use Rattle.outside.specs.Calls.{more};
     ghost use Rattle.outside.specs.Counts.{Rose};
     ghost use Rattle.outside.specs.Disk.{After, Grown, Grows, IsSettled, Looked, StillLeaves, Torn, Touches, other_of};
-    ghost use Rattle.outside.specs.History.{Rested};
-    ghost use Rattle.outside.specs.MemBenchCalls.{Passes, calls_of, disk_in, meter_in, story_of};
+    ghost use Rattle.outside.specs.History.{Grows as GrowsTo, Names, Rested, Rests, Settles, Writes};
+    ghost use Rattle.outside.specs.MemBenchCalls.{Passes, calls_of, disk_in, meter_in, story_after, story_of};
     ghost use Rattle.outside.specs.Meter.{Attaches, Bills, HasNoOther, IsAttached, SameNames, of_device};
 
     ghost told = { Unit {0} };
@@ -177,7 +177,9 @@ impl Bench for MemBench {
         ensures failed { OnErr result (Rose (of_device dev (meter_in self.old).faults) (of_device dev (meter_in self.new).faults)) }
         ensures ok { OnOk result (Attaches dev name.now (meter_in self.old) (meter_in self.new)) }
         ensures err { OnErr result (SameNames (meter_in self.old) (meter_in self.new)) }
+        ensures recorded { OnOk result (story_of self.new ≡ story_after (story_of self.old) dev (Names name.now) (32 + length name.now)) }
         ensures rested { OnErr result (Rested dev (length name.now) (story_of self.old).log (story_of self.new).log) }
+        ensures same_first { (story_of self.new).first ≡ (story_of self.old).first }
         ensures passes { IsOk result ↔ Passes self.old (length name.now) }
         ensures next { (calls_of self.new).next ≡ more (calls_of self.old).next }
         ensures same_failing { (calls_of self.new).failing ≡ (calls_of self.old).failing }
@@ -197,7 +199,9 @@ impl Bench for MemBench {
         ensures bill { Bills dev (0) (meter_in self.old) (meter_in self.new) }
         ensures same_names { SameNames (meter_in self.old) (meter_in self.new) }
         ensures failed { OnErr result (Rose (of_device dev (meter_in self.old).faults) (of_device dev (meter_in self.new).faults)) }
+        ensures recorded { OnOk result (story_of self.new ≡ story_after (story_of self.old) dev Rests 32) }
         ensures rested { OnErr result (Rested dev (0) (story_of self.old).log (story_of self.new).log) }
+        ensures same_first { (story_of self.new).first ≡ (story_of self.old).first }
         ensures passes { IsOk result ↔ Passes self.old (0) }
         ensures next { (calls_of self.new).next ≡ more (calls_of self.old).next }
         ensures same_failing { (calls_of self.new).failing ≡ (calls_of self.old).failing }
@@ -221,7 +225,9 @@ impl Bench for MemBench {
         ensures bill { Bills dev (0) (meter_in self.old) (meter_in self.new) }
         ensures same_names { SameNames (meter_in self.old) (meter_in self.new) }
         ensures failed { OnErr result (Rose (of_device dev (meter_in self.old).faults) (of_device dev (meter_in self.new).faults)) }
+        ensures recorded { OnOk result (story_of self.new ≡ story_after (story_of self.old) dev Rests 32) }
         ensures rested { OnErr result (Rested dev (0) (story_of self.old).log (story_of self.new).log) }
+        ensures same_first { (story_of self.new).first ≡ (story_of self.old).first }
         ensures passes { IsOk result ↔ Passes self.old (0) }
         ensures next { (calls_of self.new).next ≡ more (calls_of self.old).next }
         ensures same_failing { (calls_of self.new).failing ≡ (calls_of self.old).failing }
@@ -246,7 +252,9 @@ impl Bench for MemBench {
         ensures bill { Bills dev (length bytes.now) (meter_in self.old) (meter_in self.new) }
         ensures same_names { SameNames (meter_in self.old) (meter_in self.new) }
         ensures failed { OnErr result (Rose (of_device dev (meter_in self.old).faults) (of_device dev (meter_in self.new).faults)) }
+        ensures recorded { OnOk result (story_of self.new ≡ story_after (story_of self.old) dev (Writes at bytes.now bytes.now) (32 + length bytes.now)) }
         ensures rested { OnErr result (Rested dev (length bytes.now) (story_of self.old).log (story_of self.new).log) }
+        ensures same_first { (story_of self.new).first ≡ (story_of self.old).first }
         ensures passes { IsOk result ↔ Passes self.old (length bytes.now) }
         ensures next { (calls_of self.new).next ≡ more (calls_of self.old).next }
         ensures same_failing { (calls_of self.new).failing ≡ (calls_of self.old).failing }
@@ -268,7 +276,9 @@ impl Bench for MemBench {
         ensures bill { Bills Dev.Journal (len - length ((disk_in self.old).reads Dev.Journal)) (meter_in self.old) (meter_in self.new) }
         ensures same_names { SameNames (meter_in self.old) (meter_in self.new) }
         ensures failed { OnErr result (Rose (of_device Dev.Journal (meter_in self.old).faults) (of_device Dev.Journal (meter_in self.new).faults)) }
+        ensures recorded { OnOk result (story_of self.new ≡ story_after (story_of self.old) Dev.Journal (GrowsTo len) (32 + (len - length ((disk_in self.old).reads Dev.Journal)))) }
         ensures rested { OnErr result (Rested Dev.Journal (len - length ((disk_in self.old).reads Dev.Journal)) (story_of self.old).log (story_of self.new).log) }
+        ensures same_first { (story_of self.new).first ≡ (story_of self.old).first }
         ensures passes { IsOk result ↔ Passes self.old (len - length ((disk_in self.old).reads Dev.Journal)) }
         ensures next { (calls_of self.new).next ≡ more (calls_of self.old).next }
         ensures same_failing { (calls_of self.new).failing ≡ (calls_of self.old).failing }
@@ -291,7 +301,9 @@ impl Bench for MemBench {
         ensures bill { Bills dev (0) (meter_in self.old) (meter_in self.new) }
         ensures same_names { SameNames (meter_in self.old) (meter_in self.new) }
         ensures failed { OnErr result (Rose (of_device dev (meter_in self.old).faults) (of_device dev (meter_in self.new).faults)) }
+        ensures recorded { OnOk result (story_of self.new ≡ story_after (story_of self.old) dev Settles 32) }
         ensures rested { OnErr result (Rested dev (0) (story_of self.old).log (story_of self.new).log) }
+        ensures same_first { (story_of self.new).first ≡ (story_of self.old).first }
         ensures passes { IsOk result ↔ Passes self.old (0) }
         ensures next { (calls_of self.new).next ≡ more (calls_of self.old).next }
         ensures same_failing { (calls_of self.new).failing ≡ (calls_of self.old).failing }
