@@ -1,6 +1,6 @@
 ghost use Rattle.std.specs.Prelude.{◌≡◌, ◌≢◌, ◌≤◌, ◌+◌, ◌↔◌, [], IsTrue, Contains, Some, None, OnOk, OnErr, false, true};
 ghost use Rattle.outside.specs.Counts.{Rose};
-ghost use Rattle.outside.specs.Calls.{listing, more, unused};
+ghost use Rattle.outside.specs.Calls.{listing, more, one_less, unused};
 ghost use Rattle.outside.specs.Disk.{other_of};
 ghost use Rattle.outside.specs.History.{Rested, work_of};
 ghost use Rattle.outside.specs.Meter.{of_device};
@@ -92,6 +92,7 @@ impl Gate {
         ensures same_sure { self.new.sure ≡ self.old.sure }
         ensures same_failing { self.new.failures.failing ≡ self.old.failures.failing }
         ensures next { self.new.failures.next ≡ more self.old.failures.next }
+        ensures passing { self.new.passing ≡ one_less self.old.passing }
     {
         let listed = self.failures.fails();
         let stopped = stops(&mut self.passing);
@@ -110,7 +111,7 @@ impl Gate {
 /// Whether the calls that pass are used up, after one call more.
 fn stops(passing: &mut Option<u64>) -> bool
     ensures exact { IsTrue result ↔ (passing.old ≡ Some 0) }
-    ensures none { passing.old ≡ None → passing.new ≡ None }
+    ensures one_less { passing.new ≡ one_less passing.old }
 {
     match *passing {
         None => false,

@@ -148,11 +148,11 @@ impl MemBench {
 }
 
 impl Bench for MemBench {
-    ghost use Rattle.outside.specs.Calls.{more};
+    ghost use Rattle.outside.specs.Calls.{more, one_less};
     ghost use Rattle.outside.specs.Counts.{Rose};
     ghost use Rattle.outside.specs.Disk.{After, Grown, Grows, IsSettled, Looked, StillLeaves, Torn, Touches, other_of};
     ghost use Rattle.outside.specs.History.{Grows as GrowsTo, Names, Rested, Rests, Settles, Writes};
-    ghost use Rattle.outside.specs.MemBenchCalls.{Passes, calls_of, disk_in, meter_in, story_after, story_of};
+    ghost use Rattle.outside.specs.MemBenchCalls.{Passes, calls_of, disk_in, meter_in, passing_of, story_after, story_of};
     ghost use Rattle.outside.specs.Meter.{Attaches, Bills, HasNoOther, IsAttached, SameNames, of_device};
 
     ghost told = { Unit {0} };
@@ -183,6 +183,7 @@ impl Bench for MemBench {
         ensures passes { IsOk result ↔ Passes self.old (length name.now) }
         ensures next { (calls_of self.new).next ≡ more (calls_of self.old).next }
         ensures same_failing { (calls_of self.new).failing ≡ (calls_of self.old).failing }
+        ensures passing { passing_of self.new ≡ one_less (passing_of self.old) }
     {
         if !self.gate.passes(&mut self.log, dev, name.len()) {
             return Err(BenchErr);
@@ -205,6 +206,7 @@ impl Bench for MemBench {
         ensures passes { IsOk result ↔ Passes self.old (0) }
         ensures next { (calls_of self.new).next ≡ more (calls_of self.old).next }
         ensures same_failing { (calls_of self.new).failing ≡ (calls_of self.old).failing }
+        ensures passing { passing_of self.new ≡ one_less (passing_of self.old) }
     {
         if !self.gate.passes(&mut self.log, dev, 0) {
             return Err(BenchErr);
@@ -231,6 +233,7 @@ impl Bench for MemBench {
         ensures passes { IsOk result ↔ Passes self.old (0) }
         ensures next { (calls_of self.new).next ≡ more (calls_of self.old).next }
         ensures same_failing { (calls_of self.new).failing ≡ (calls_of self.old).failing }
+        ensures passing { passing_of self.new ≡ one_less (passing_of self.old) }
     {
         if !self.gate.passes(&mut self.log, dev, 0) {
             return Err(BenchErr);
@@ -258,6 +261,7 @@ impl Bench for MemBench {
         ensures passes { IsOk result ↔ Passes self.old (length bytes.now) }
         ensures next { (calls_of self.new).next ≡ more (calls_of self.old).next }
         ensures same_failing { (calls_of self.new).failing ≡ (calls_of self.old).failing }
+        ensures passing { passing_of self.new ≡ one_less (passing_of self.old) }
     {
         if !self.gate.passes(&mut self.log, dev, bytes.len()) {
             return Err(BenchErr);
@@ -282,6 +286,7 @@ impl Bench for MemBench {
         ensures passes { IsOk result ↔ Passes self.old (len - length ((disk_in self.old).reads Dev.Journal)) }
         ensures next { (calls_of self.new).next ≡ more (calls_of self.old).next }
         ensures same_failing { (calls_of self.new).failing ≡ (calls_of self.old).failing }
+        ensures passing { passing_of self.new ≡ one_less (passing_of self.old) }
     {
         let more = len as usize - self.journal.len();
         if !self.gate.passes(&mut self.log, Dev::Journal, more) {
@@ -307,6 +312,7 @@ impl Bench for MemBench {
         ensures passes { IsOk result ↔ Passes self.old (0) }
         ensures next { (calls_of self.new).next ≡ more (calls_of self.old).next }
         ensures same_failing { (calls_of self.new).failing ≡ (calls_of self.old).failing }
+        ensures passing { passing_of self.new ≡ one_less (passing_of self.old) }
     {
         if !self.gate.passes(&mut self.log, dev, 0) {
             return Err(BenchErr);
