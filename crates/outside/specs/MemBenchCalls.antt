@@ -1,8 +1,8 @@
 -- Which calls on a bench in memory fail, and what it has recorded.
-use Rattle.std.specs.Prelude.{◌≢◌, ◌+◌, ◌≤◌, Contains, ℕ, List, [], Bool, Option, None, Some, true, IsTrue}
+use Rattle.std.specs.Prelude.{◌≡◌, ◌≢◌, ◌+◌, ◌<◌, ◌≤◌, Contains, ℕ, List, [], Bool, Option, None, Some, true, IsTrue}
 use Rattle.outside.specs.declared.mem_bench.MemBench.{MemBench}
 use Rattle.outside.specs.declared.bench.Dev.{Dev}
-use Rattle.outside.specs.Calls.{Calls}
+use Rattle.outside.specs.Calls.{Calls, IsNext, one_less}
 use Rattle.outside.specs.Disk.{Disk}
 use Rattle.outside.specs.History.{Effect, Log, disk_of, logged}
 use Rattle.outside.specs.Leaving.{is_pending_at, kept_image, pending_of, settled_both, torn_calls}
@@ -70,3 +70,11 @@ meter_in bench = meter_of bench.gate bench.log
 -- a call with so many bytes passes: its number isn't listed, the calls that pass are not used up, and it has room
 abbrev pub Passes : MemBench → ℕ → Type 0
 Passes bench bytes = (¬ Contains (calls_of bench).failing (calls_of bench).next) × (passing_of bench ≢ Some 0) × ((meter_in bench).work + 32 + bytes ≤ (story_of bench).log.room)
+
+-- A call with so many bytes, failed or not, takes its number and is one of those that pass; and where it has no room,
+-- the work is the room and 1 from then on.
+pub record TakesCall (bytes : ℕ) (old new : MemBench) : Type 0 where
+  pub next : IsNext (calls_of old) (calls_of new)
+  pub passing : passing_of new ≡ one_less (passing_of old)
+  pub first : (story_of new).first ≡ (story_of old).first
+  pub past : (story_of old).log.room < (meter_in old).work + 32 + bytes → (meter_in new).work ≡ (story_of old).log.room + 1

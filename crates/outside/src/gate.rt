@@ -1,4 +1,4 @@
-ghost use Rattle.std.specs.Prelude.{◌≡◌, ◌≢◌, ◌≤◌, ◌+◌, ◌↔◌, [], IsTrue, Contains, Some, None, OnOk, OnErr, false, true};
+ghost use Rattle.std.specs.Prelude.{◌≡◌, ◌≢◌, ◌<◌, ◌≤◌, ◌+◌, ◌↔◌, [], IsTrue, Contains, Some, None, OnOk, OnErr, false, true};
 ghost use Rattle.outside.specs.Counts.{Rose};
 ghost use Rattle.outside.specs.Calls.{listing, more, one_less, unused};
 ghost use Rattle.outside.specs.Disk.{other_of};
@@ -87,6 +87,7 @@ impl Gate {
         ensures other { of_device (other_of dev) self.new.faults ≡ of_device (other_of dev) self.old.faults }
         ensures no_less { work_of self.old.past log.old ≤ work_of self.new.past log.new }
         ensures work { work_of self.new.past log.new ≤ work_of self.old.past log.old + 32 + bytes }
+        ensures past { log.old.room < work_of self.old.past log.old + 32 + bytes → work_of self.new.past log.new ≡ log.old.room + 1 }
         ensures same_room { log.new.room ≡ log.old.room }
         ensures used { log.old.used ≤ log.new.used }
         ensures same_sure { self.new.sure ≡ self.old.sure }
