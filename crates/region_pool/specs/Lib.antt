@@ -5,3 +5,4 @@ pub mod Loans
 pub mod Ownership
 pub mod Parts
 pub mod Runs
+pub mod Whole

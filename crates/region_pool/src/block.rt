@@ -2,7 +2,7 @@
 ghost use Rattle.std.specs.Prelude.{◌≡◌, ℕ, ◌+◌, ◌^◌, ◌<◌, ◌≤◌, List, length, take, drop, replicate, IfOk};
 ghost use Rattle.std.specs.Borrow.{sem};
 
-use crate::memory::{Bytes, Deed, Start, allocate, deallocate};
+use crate::memory::{Bytes, Deed, Start};
 use base_fields::NoMemory;
 use std::alloc::Global;
 use std::marker::Model;
@@ -17,13 +17,14 @@ pub(crate) struct Block {
 }
 
 impl Model for Block {
-    ghost use Rattle.std.specs.Prelude.{◌≡◌, ℕ, ◌^◌, ◌<◌, List, length};
+    ghost use Rattle.std.specs.Prelude.{ℕ, List};
+    ghost use Rattle.region_pool.specs.Whole.{IsWhole};
 
     ghost Value = { List ℕ };
 
     ghost view = { λ b. b.bytes.items };
 
-    ghost invariant = { λ b. (b.bytes.at ≡ b.start.ptr) × (length b.bytes.items ≡ b.len) × (b.bytes.spare ≡ 0) × (b.deed.at ≡ b.start.ptr) × (b.deed.len ≡ b.len) × (b.deed.alloc ≡ b.alloc) };
+    ghost invariant = { λ b. IsWhole b.start b.len b.bytes b.deed b.alloc };
 }
 
 impl Block {
@@ -34,7 +35,7 @@ impl Block {
         requires { len < 2 ^ 63 }
         ensures { IfOk result (λ b. b ≡ replicate len 0) }
     {
-        let Some((start, mut bytes, deed)) = allocate(&alloc, len) else {
+        let Some((start, mut bytes, deed)) = Deed::allocate(&alloc, len) else {
             return Err(NoMemory);
         };
         for at in 0..len {
@@ -77,6 +78,6 @@ impl Drop for Block {
             deed,
             alloc,
         } = self;
-        deallocate(&alloc, start, len, bytes, deed);
+        Deed::deallocate(&alloc, start, len, bytes, deed);
     }
 }

@@ -40,31 +40,29 @@ impl<A: Allocator> Model for Deed<A> {
     ghost also_owns = { λ d. deed_owns (A.dealloc_token d.alloc) d.at d.len };
 }
 
-/// A block of `len` bytes, none of them written, if there is memory.
-pub(crate) fn allocate<A: Allocator>(alloc: &A, len: usize) -> Option<(Start, Bytes, Deed<A>)>
-    requires { len < 2 ^ 63 }
-    ensures { IfSome result (λ r. (r.1.at ≡ r.0.ptr) × (r.1.items ≡ []) × (r.1.spare ≡ len) × (r.2.at ≡ r.0.ptr) × (r.2.len ≡ len) × (r.2.alloc ≡ alloc.now)) }
-{
-    match alloc.allocate(len, 1) {
-        Ok(ptr) => Some((Start { ptr }, Bytes {}, Deed { by: PhantomData })),
-        Err(_) => None,
-    }
-}
+impl<A: Allocator> Deed<A> {
+    ghost use Rattle.region_pool.specs.Whole.{IsBlank, IsWhole};
 
-/// Gives the block back.
-pub(crate) fn deallocate<A: Allocator>(
-    alloc: &A,
-    start: Start,
-    len: usize,
-    bytes: Bytes,
-    deed: Deed<A>,
-)
-    requires { (bytes.at ≡ start.ptr) × (length bytes.items ≡ len) × (bytes.spare ≡ 0) × (deed.at ≡ start.ptr) × (deed.len ≡ len) × (deed.alloc ≡ alloc.now) }
-{
-    let Bytes {} = bytes;
-    let Deed { by: _ } = deed;
-    unsafe {
-        alloc.deallocate(start.ptr, len, 1);
+    /// A block of `len` bytes, none of them written, if there is memory.
+    pub(crate) fn allocate(alloc: &A, len: usize) -> Option<(Start, Bytes, Deed<A>)>
+        requires { len < 2 ^ 63 }
+        ensures { IfSome result (λ r. IsBlank r.0 len r.1 r.2 alloc.now) }
+    {
+        match alloc.allocate(len, 1) {
+            Ok(ptr) => Some((Start { ptr }, Bytes {}, Deed { by: PhantomData })),
+            Err(_) => None,
+        }
+    }
+
+    /// Gives the block back.
+    pub(crate) fn deallocate(alloc: &A, start: Start, len: usize, bytes: Bytes, deed: Deed<A>)
+        requires { IsWhole start len bytes deed alloc.now }
+    {
+        let Bytes {} = bytes;
+        let Deed { by: _ } = deed;
+        unsafe {
+            alloc.deallocate(start.ptr, len, 1);
+        }
     }
 }
 

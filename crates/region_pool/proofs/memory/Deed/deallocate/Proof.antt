@@ -31,11 +31,11 @@ use Rattle.region_pool.specs.Ownership.{bytes_of, bytes_own}
 use Rattle.region_pool.specs.contracts.memory.Bytes as bytes
 use Rattle.region_pool.specs.contracts.memory.Start as start
 use Rattle.region_pool.specs.contracts.memory.Deed as deed
-use Rattle.region_pool.specs.contracts.memory.deallocate.{ended, clauses}
-use Rattle.region_pool.specs.contracts.memory.deallocate.Key.{name as #self}
+use Rattle.region_pool.specs.contracts.memory.Deed.deallocate.{ended, clauses}
+use Rattle.region_pool.specs.contracts.memory.Deed.deallocate.Key.{name as #self}
 use Rattle.region_pool.proofs.Rows.{none, mark, word, none_had, mark_had, word_had, to_room, then_runs, out_of_block}
-use Rattle.region_pool.proofs.memory.deallocate.Statement.{statement}
-use Rattle.region_pool.proofs.memory.deallocate.Code as compiled
+use Rattle.region_pool.proofs.memory.Deed.deallocate.Statement.{statement}
+use Rattle.region_pool.proofs.memory.Deed.deallocate.Code as compiled
 
 pub deallocate_spec : {M : Type 1} → statement M
 deallocate_spec 𝓤 𝓛 𝓜 𝓡 wired A L g d dd met md =

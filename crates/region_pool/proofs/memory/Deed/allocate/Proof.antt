@@ -34,11 +34,11 @@ use Rattle.region_pool.specs.Ownership.{bytes_of}
 use Rattle.region_pool.specs.contracts.memory.Bytes as bytes
 use Rattle.region_pool.specs.contracts.memory.Start as start
 use Rattle.region_pool.specs.contracts.memory.Deed as deed
-use Rattle.region_pool.specs.contracts.memory.allocate.{ended, clauses}
-use Rattle.region_pool.specs.contracts.memory.allocate.Key.{name as #self}
+use Rattle.region_pool.specs.contracts.memory.Deed.allocate.{ended, clauses}
+use Rattle.region_pool.specs.contracts.memory.Deed.allocate.Key.{name as #self}
 use Rattle.region_pool.proofs.Rows.{none, mark, word, Mark, none_made, mark_made, word_made, three_val, three_of, then_runs}
-use Rattle.region_pool.proofs.memory.allocate.Statement.{statement}
-use Rattle.region_pool.proofs.memory.allocate.Code as compiled
+use Rattle.region_pool.proofs.memory.Deed.allocate.Statement.{statement}
+use Rattle.region_pool.proofs.memory.Deed.allocate.Code as compiled
 
 pub allocate_spec : {M : Type 1} → statement M
 allocate_spec 𝓤 𝓛 𝓜 𝓡 wired A L g d dd met md =
