@@ -1,5 +1,5 @@
 -- A refusal ends what would follow.
-use Rattle.std.proofs.Common.{◌≡◌, Result, Ok, Err, ap, subst, sym}
+use Rattle.std.proofs.Common.{◌≡◌, Result, ap, subst, sym}
 use Rattle.outside.specs.Counts.{Counts}
 use Rattle.conf_walk.specs.Answers.{HasCause, Refuses}
 use Rattle.conf_walk.specs.Stack.{IsNoFileFault}

@@ -1,21 +1,14 @@
 -- The tokens of one text, one after another.
-use Rattle.std.proofs.Common.{◌≡◌, ℕ, ◌+◌, ◌-◌, ◌<◌, ◌≤◌, Bool, true, false, List, [], ◌∷◌, length, drop, slice_get, Option, Some, None, Result, Ok, Err, ap, sym, subst, ◌∙◌, refl, arith, inl, inr, ◌⊎◌}
+use Rattle.std.proofs.Common.{◌≡◌, ℕ, ◌≤◌, true, false, List, [], length, drop, slice_get, None, Result, Ok, Err, ap, ◌∙◌, arith, inl, inr}
 use Rattle.std.proofs.Math.Seq.{drop-length}
 use Rattle.std.proofs.lemmas.Option.{slice_get_cases}
 use Rattle.base_fields.specs.declared.names.Pair.{Pair}
 use Rattle.conf_items.specs.Grammar.{may_end}
-use Rattle.conf_items.specs.Outline.{deeper_of}
-use Rattle.conf_items.specs.declared.items.Word.{Word}
-use Rattle.conf_lexer.specs.declared.tokens.Token.{Token}
-use Rattle.conf_walk.specs.Answers.{Refuses}
-use Rattle.conf_walk.specs.Stack.{Goes, IsOpen, Leads, Spent, goes_on, left_of, left_then, met, reading_of, rest_walked}
-use Rattle.conf_walk.specs.Walk.{◌>>=◌, tokens_walked, when}
+use Rattle.conf_walk.specs.Stack.{rest_walked}
+use Rattle.conf_walk.specs.Walk.{tokens_walked, when}
 use Rattle.conf_walk.specs.declared.fault.WalkFault.{WalkFault}
 use Rattle.conf_walk.specs.declared.fault.WalkFault.TheVariants.{BadText}
 use Rattle.conf_walk.specs.declared.running.OpenText.{OpenText}
-use Rattle.conf_walk.specs.declared.running.Turn.{Turn}
-use Rattle.conf_walk.specs.declared.steps.Taken.{Taken}
-use Rattle.conf_walk.specs.declared.steps.Taken.TheVariants as taken
 use Rattle.conf_walk.specs.declared.texts.Reading.{Reading}
 
 past-end : {X : Type 0} (xs : List X) (i : ℕ) → slice_get xs i ≡ None → length xs ≤ i

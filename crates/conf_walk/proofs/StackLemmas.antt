@@ -1,11 +1,11 @@
 -- The stack of texts, and the work that is left on it.
-use Rattle.std.proofs.Common.{◌≡◌, ℕ, ◌+◌, ◌-◌, ◌*◌, ◌<◌, ◌≤◌, suc, All, List, [], ◌∷◌, ◌++◌, length, ◌∙◌, ap, arith, length-append}
+use Rattle.std.proofs.Common.{◌≡◌, ◌+◌, ◌-◌, ◌<◌, ◌≤◌, suc, All, List, [], ◌∷◌, ◌++◌, length, ◌∙◌, ap, arith, length-append}
 use Rattle.std.specs.List.{sum_by}
 use Rattle.std.proofs.lemmas.List.Elements.{All-append, All-cons, All-nil}
 use Rattle.std.proofs.lemmas.List.Sums.{sum_by-append}
 use Rattle.conf_items.specs.Outline.{deeper_of}
 use Rattle.conf_walk.specs.Stack.{IsOpen, IsStack, Spent, begun, left_of, work_left}
-use Rattle.conf_walk.specs.Walk.{most_bytes, nothing_read, with_text}
+use Rattle.conf_walk.specs.Walk.{nothing_read, with_text}
 use Rattle.conf_walk.specs.declared.running.OpenText.{OpenText}
 use Rattle.conf_walk.specs.declared.texts.Reading.{Reading}
 use Rattle.conf_walk.specs.declared.texts.Text.{Text}

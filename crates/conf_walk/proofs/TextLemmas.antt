@@ -1,5 +1,5 @@
 -- A text has at most as many tokens as bytes.
-use Rattle.std.proofs.Common.{◌≡◌, ℕ, ◌+◌, ◌<◌, ◌≤◌, suc, All, List, [], ◌∷◌, length, arith}
+use Rattle.std.proofs.Common.{ℕ, ◌+◌, ◌≤◌, suc, All, List, [], ◌∷◌, length, arith}
 use Rattle.conf_lexer.specs.Standing.{InOrder, StandsIn}
 use Rattle.conf_lexer.specs.declared.tokens.Token.{Token}
 

@@ -1,19 +1,18 @@
 -- One token of a text.
-use Rattle.std.proofs.Common.{◌≡◌, ℕ, ◌+◌, ◌<◌, ◌≤◌, suc, All, List, [], ◌∷◌, length, get_or, drop, slice_get, Option, Some, None, Result, Ok, Err, ap, sym, subst, ◌∙◌, refl, arith, add-one}
-use Rattle.std.proofs.Math.Seq.{drop-cons, drop-length}
+use Rattle.std.proofs.Common.{◌≡◌, ℕ, ◌+◌, ◌<◌, suc, All, List, ◌∷◌, length, get_or, drop, slice_get, Some, Result, Ok, ap, subst, ◌∙◌, arith}
+use Rattle.std.proofs.Math.Seq.{drop-cons}
 use Rattle.std.proofs.lemmas.Option.{slice_get_within, get_or_from_slice_get}
 use Rattle.base_fields.specs.declared.names.Pair.{Pair}
 use Rattle.conf_items.specs.declared.grammar.Move.{Move}
 use Rattle.conf_items.specs.declared.grammar.Parser.{Parser}
 use Rattle.conf_lexer.specs.declared.tokens.Token.{Token}
 use Rattle.conf_walk.specs.Answers.{Refuses}
-use Rattle.conf_walk.specs.Stack.{Leads, goes_on, met, rest_walked}
+use Rattle.conf_walk.specs.Stack.{met, rest_walked}
 use Rattle.conf_walk.specs.Walk.{◌>>=◌, stepped, taken, tokens_walked}
 use Rattle.conf_walk.specs.declared.fault.WalkFault.{WalkFault}
 use Rattle.conf_walk.specs.declared.running.OpenText.{OpenText}
 use Rattle.conf_walk.specs.declared.steps.Taken.{Taken}
 use Rattle.conf_walk.specs.declared.texts.Reading.{Reading}
-use Rattle.conf_walk.specs.declared.texts.Text.{Text}
 use Rattle.conf_walk.proofs.Refusals.{refuses-bind, refuses-along}
 
 pub drop-at : {X : Type 0} (xs : List X) (i : ℕ) (x : X) → slice_get xs i ≡ Some x → drop i xs ≡ x ∷ drop (i + 1) xs

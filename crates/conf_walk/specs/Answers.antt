@@ -1,5 +1,5 @@
 -- What an answer of the walk says of the texts, and of the counts of the files.
-use Rattle.std.specs.Prelude.{◌≡◌, ℕ, Result, Ok, Err}
+use Rattle.std.specs.Prelude.{◌≡◌, Result, Ok, Err}
 use Rattle.outside.specs.Counts.{Counts, Rose}
 use Rattle.conf_walk.specs.declared.fault.WalkFault.{WalkFault}
 use Rattle.conf_walk.specs.declared.fault.WalkFault.TheVariants.{Missing, SourceShort, FileFault, NoMemory}

@@ -1,5 +1,5 @@
 -- What the texts of a configuration say, and the first thing that is met in them: a function of a name, a nesting and what was read before.
-use Rattle.std.specs.Prelude.{◌≡◌, ℕ, zero, suc, ◌+◌, ◌-◌, ◌^◌, min, nat_le, Bool, List, [], ◌∷◌, ◌++◌, length, take, drop, codes, Option, Some, None, Result, Ok, Err, if◌then◌else◌}
+use Rattle.std.specs.Prelude.{ℕ, zero, suc, ◌+◌, ◌-◌, ◌^◌, min, nat_le, Bool, List, [], ◌∷◌, ◌++◌, length, take, drop, codes, Option, Some, None, Result, Ok, Err, if◌then◌else◌}
 use Rattle.std.specs.Str.{bytes_eq}
 use Rattle.base_fields.specs.declared.names.Pair.{Pair}
 use Rattle.outside.specs.Files.{Tree}
@@ -19,7 +19,6 @@ use Rattle.conf_items.specs.declared.grammar.Move.{Move}
 use Rattle.conf_items.specs.declared.grammar.Output.{Output}
 use Rattle.conf_items.specs.declared.grammar.Output.TheVariants as output
 use Rattle.conf_items.specs.declared.grammar.Parser.{Parser}
-use Rattle.conf_items.specs.declared.outline.Outline.{Outline}
 use Rattle.conf_items.specs.declared.outline.OpenSections.TheVariants.{Nothing}
 use Rattle.conf_walk.specs.declared.fault.WalkFault.{WalkFault}
 use Rattle.conf_walk.specs.declared.fault.WalkFault.TheVariants.{BadText, Unset, DeepInclude, TooLong, Missing}

@@ -1,5 +1,5 @@
 //! One text: its tokens one after another, up to its end or a text that is included.
-ghost use Rattle.std.specs.Prelude.{◌≡◌, ℕ, ◌+◌, ◌≤◌, IfErr, IfOk, IsTrue, List, Result, Some, slice_get, All, length};
+ghost use Rattle.std.specs.Prelude.{◌≡◌, ℕ, ◌+◌, ◌≤◌, All, IfErr, IfOk, List, Result, Some, length, slice_get};
 ghost use Rattle.conf_items.specs.Outline.{deeper_of};
 ghost use Rattle.conf_lexer.specs.Standing.{StandsIn};
 ghost use Rattle.conf_walk.specs.Stack.{Goes, IsNoFileFault, IsOpen, Leads, Stops, begun, goes_on, left_of, left_then, rest_walked};

@@ -1,5 +1,5 @@
 //! One token of a text: where it leads, and what it makes whole.
-ghost use Rattle.std.specs.Prelude.{◌≡◌, ℕ, ◌+◌, ◌-◌, ◌<◌, ◌≤◌, ◌^◌, Bool, IfErr, IfOk, IsErrOf, List, Ok, Result};
+ghost use Rattle.std.specs.Prelude.{◌≡◌, ℕ, ◌+◌, ◌-◌, ◌<◌, ◌≤◌, ◌^◌, IfErr, IfOk, List, Result};
 ghost use Rattle.conf_items.specs.Outline.{deeper_of};
 ghost use Rattle.conf_lexer.specs.Standing.{StandsIn};
 ghost use Rattle.conf_words.specs.Values.{value_of};

@@ -1,5 +1,5 @@
 //! One text: its length, its bytes and its tokens.
-ghost use Rattle.std.specs.Prelude.{◌≡◌, ◌+◌, ◌≤◌, All, [], length, IfErr, IfOk};
+ghost use Rattle.std.specs.Prelude.{◌≡◌, ◌+◌, ◌≤◌, All, IfErr, IfOk, length};
 ghost use Rattle.conf_lexer.specs.Standing.{StandsIn};
 ghost use Rattle.conf_lexer.specs.Text.{tokens_of};
 ghost use Rattle.outside.specs.Counts.{NoneFell};

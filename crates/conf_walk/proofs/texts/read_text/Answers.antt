@@ -1,5 +1,3 @@
-use Rattle.std.proofs.Common.{All, subst}
-use Rattle.conf_lexer.specs.Standing.{StandsIn}
 use Rattle.conf_walk.proofs.texts.read_text.Goals as goal
 
 pub returns-clause-stands : goal.returns-clause-stands

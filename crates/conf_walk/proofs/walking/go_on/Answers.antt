@@ -2,7 +2,7 @@ use Rattle.std.proofs.Common.{◌≡◌, ◌-◌, [], ◌∷◌, ◌++◌, lengt
 use Rattle.std.proofs.lemmas.Result.{err_from_is_err_and}
 use Rattle.conf_walk.specs.Stack.{Stops, left_then, rest_walked, stack_walked, then_walked}
 use Rattle.conf_walk.specs.Walk.{◌>>=◌, text_walked}
-use Rattle.conf_walk.specs.declared.running.Stop.TheVariants.{Ended, Includes}
+use Rattle.conf_walk.specs.declared.running.Stop.TheVariants.{Includes}
 use Rattle.conf_walk.proofs.Refusals.{refuses-along}
 use Rattle.conf_walk.proofs.StackLemmas.{stack-ended, stack-includes}
 use Rattle.conf_walk.proofs.WalkLemmas.{top-ended, top-includes-at, top-refused}
