@@ -2,13 +2,18 @@
 use Rattle.std.specs.Prelude.{ℕ, List, [], ◌∷◌, ◌++◌, codes, decimal}
 use Rattle.std.specs.List.{flat_map}
 use Rattle.answer_lines.specs.declared.answer.Answer.{Answer}
-use Rattle.answer_lines.specs.declared.answer.Answer.TheVariants.{Done, Usage, TooLong, TooFar, Missing, SourceShort, FileFault, NoMemory, PrintFault, NotBuilt}
+use Rattle.answer_lines.specs.declared.answer.Answer.TheVariants.{Done, Usage, BadText, UnknownKey, BadValue, Unset, DeepInclude, TooLong, TooFar, Missing, SourceShort, FileFault, NoMemory, PrintFault, NotBuilt}
 use Rattle.answer_lines.specs.Line.{shown_name, spelled}
 
 -- the status with which the program ends
 abbrev pub status_of : Answer → ℕ
 status_of (Done report) = 0
 status_of Usage = 1
+status_of (BadText name place) = 2
+status_of (UnknownKey name place) = 2
+status_of (BadValue name place) = 2
+status_of (Unset var) = 2
+status_of (DeepInclude name) = 2
 status_of (TooLong total) = 2
 status_of (TooFar part number limit) = 3
 status_of (Missing name) = 4
@@ -22,6 +27,11 @@ status_of (NotBuilt name) = 13
 abbrev pub label_of : Answer → List ℕ
 label_of (Done report) = []
 label_of Usage = codes "Usage"
+label_of (BadText name place) = codes "BadText"
+label_of (UnknownKey name place) = codes "UnknownKey"
+label_of (BadValue name place) = codes "BadValue"
+label_of (Unset var) = codes "Unset"
+label_of (DeepInclude name) = codes "DeepInclude"
 label_of (TooLong total) = codes "TooLong"
 label_of (TooFar part number limit) = codes "TooFar"
 label_of (Missing name) = codes "Missing"
@@ -31,8 +41,17 @@ label_of NoMemory = codes "NoMemory"
 label_of PrintFault = []
 label_of (NotBuilt name) = codes "NotBuilt"
 
+-- a place in a text
+abbrev pub placed : List ℕ → ℕ → List (List ℕ × List ℕ)
+placed name place = (codes "name", shown_name name) ∷ (codes "place", decimal place) ∷ []
+
 -- the fields of an answer in their order, each with its key
 abbrev pub fields_of : Answer → List (List ℕ × List ℕ)
+fields_of (BadText name place) = placed name place
+fields_of (UnknownKey name place) = placed name place
+fields_of (BadValue name place) = placed name place
+fields_of (Unset var) = (codes "var", shown_name var) ∷ []
+fields_of (DeepInclude name) = (codes "name", shown_name name) ∷ []
 fields_of (TooLong total) = (codes "total", decimal total) ∷ []
 fields_of (TooFar part number limit) = (codes "part", shown_name part) ∷ (codes "number", decimal number) ∷ (codes "limit", decimal limit) ∷ []
 fields_of (Missing name) = (codes "name", shown_name name) ∷ []

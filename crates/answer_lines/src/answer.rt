@@ -16,6 +16,16 @@ pub enum Answer {
     Done(Report),
     /// The words are no command.
     Usage,
+    /// At `place`, in bytes from the start of the text of that name, stands no token, or one that can't stand there.
+    BadText { name: Name, place: u64 },
+    /// At `place` of the text of that name stands no key or section that may stand there.
+    UnknownKey { name: Name, place: u64 },
+    /// At `place` of the text of that name stands no value that the key may have, or a section that lacks something.
+    BadValue { name: Name, place: u64 },
+    /// A variable of a configuration has no value.
+    Unset { var: Name },
+    /// The text of that name would be included at a nesting above 8.
+    DeepInclude { name: Name },
     /// The texts have so many bytes in all, more than 1,048,576.
     TooLong { total: u64 },
     /// A number of that partition is above the limit that the format has.
@@ -44,7 +54,8 @@ impl Answer {
         match self {
             Answer::Done(_) => 0,
             Answer::Usage => 1,
-            Answer::TooLong { .. } => 2,
+            Answer::BadText { .. } | Answer::UnknownKey { .. } | Answer::BadValue { .. } => 2,
+            Answer::Unset { .. } | Answer::DeepInclude { .. } | Answer::TooLong { .. } => 2,
             Answer::TooFar { .. } => 3,
             Answer::Missing { .. } => 4,
             Answer::SourceShort { .. } => 8,

@@ -1,6 +1,6 @@
 ghost use Rattle.std.specs.Prelude.{◌≡◌, ◌≤◌, length, take, map, sum_by, ◌+◌};
 ghost use Rattle.answer_lines.specs.Line.{PutsLine, field_text, field_room};
-ghost use Rattle.answer_lines.specs.Answer.{built_text, error_text, image_text, refusal_text};
+ghost use Rattle.answer_lines.specs.Answer.{built_text, error_text, image_text, placed, refusal_text};
 
 use crate::Answer;
 use crate::line::{Field, Line, Value};
@@ -14,6 +14,11 @@ pub fn error_line(answer: &Answer, room: &mut [u8]) -> usize
     match answer {
         Answer::Done(_) | Answer::PrintFault => 0,
         Answer::Usage => refusal("Usage", &[], room),
+        Answer::BadText { name, place } => placed("BadText", name.text(), *place, room),
+        Answer::UnknownKey { name, place } => placed("UnknownKey", name.text(), *place, room),
+        Answer::BadValue { name, place } => placed("BadValue", name.text(), *place, room),
+        Answer::Unset { var } => refusal("Unset", &[text("var", var.text())], room),
+        Answer::DeepInclude { name } => refusal("DeepInclude", &[text("name", name.text())], room),
         Answer::TooLong { total } => refusal("TooLong", &[number("total", *total)], room),
         Answer::TooFar {
             part,
@@ -80,6 +85,15 @@ fn number(key: &'static str, n: u64) -> Field<'static>
         key,
         value: Value::Number(n),
     }
+}
+
+// The line of a refusal with a place in a text.
+fn placed(label: &str, name: &str, place: u64, room: &mut [u8]) -> usize
+    requires fits { length label.now ≤ 20 }
+    requires room { 1024 ≤ length room.old }
+    ensures { PutsLine (refusal_text label.now (placed name.now place)) room.new result }
+{
+    refusal(label, &[text("name", name), number("place", place)], room)
 }
 
 // The line of a refusal.

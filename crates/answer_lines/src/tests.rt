@@ -9,6 +9,44 @@ fn answers_have_their_status_and_line(rt: HostRuntime) -> Result<(), Fail> {
         (Answer::Done(Report::Built { images: 1 }), 0, ""),
         (Answer::Usage, 1, "error Usage"),
         (
+            Answer::BadText {
+                name: Name::of(alloc, "c")?,
+                place: 17,
+            },
+            2,
+            "error BadText name=c place=17",
+        ),
+        (
+            Answer::UnknownKey {
+                name: Name::of(alloc, "c")?,
+                place: 14,
+            },
+            2,
+            "error UnknownKey name=c place=14",
+        ),
+        (
+            Answer::BadValue {
+                name: Name::of(alloc, "c")?,
+                place: 0,
+            },
+            2,
+            "error BadValue name=c place=0",
+        ),
+        (
+            Answer::Unset {
+                var: Name::of(alloc, "ROOT")?,
+            },
+            2,
+            "error Unset var=ROOT",
+        ),
+        (
+            Answer::DeepInclude {
+                name: Name::of(alloc, "a")?,
+            },
+            2,
+            "error DeepInclude name=a",
+        ),
+        (
             Answer::TooLong { total: 1_048_577 },
             2,
             "error TooLong total=1048577",

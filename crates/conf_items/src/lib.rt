@@ -9,3 +9,6 @@ mod outline;
 pub use grammar::{Lexeme, Mark, Move, Next, OpenList, Output, Parser};
 pub use items::{Given, Head, Place, Setting, Value, Word};
 pub use outline::{OpenSections, Outline, Subsection, TopItem, TopSection};
+
+#[cfg(test)]
+mod tests;

@@ -1,6 +1,7 @@
 //! The first setting of a section that has another key or value.
 ghost use Rattle.std.specs.Prelude.{◌≡◌};
-ghost use Rattle.conf_keys.specs.Checking.{checked, hole_step, holes_from, is_hole, listed_holes, one_fault, shaped_step, step_of, value_place};
+ghost use Rattle.conf_keys.specs.Checking.{checked, hole_step, holes_from, is_hole, listed_holes};
+ghost use Rattle.conf_keys.specs.Checking.{one_fault, shaped_step, step_of, value_place};
 
 use crate::settings::{Section, Shape};
 use crate::values;
@@ -50,7 +51,8 @@ fn is_hole(word: &Word) -> bool
     values::hole(word.text.text().as_bytes()).is_some()
 }
 
-// How many holes there are with these behind `held` others, or the first that is none or one too many.
+// How many holes there are with these behind `held` others, or the first that is none or one too
+// many.
 fn holes_from(held: usize, words: &[Word]) -> Result<usize, SectionFault>
     ensures { result ≡ holes_from words.now held }
 {

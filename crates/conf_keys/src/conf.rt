@@ -54,8 +54,8 @@ pub struct FlashSection {
     pub numpebs: u64,
 }
 
-/// An image. `hd`, `sparse` and `plain` hold the defaults where it hasn't that section, and the last
-/// one's keys where it has several.
+/// An image. `hd`, `sparse` and `plain` hold the defaults where it hasn't that section, and the
+/// keys of the last where it has several.
 #[derive(Debug, Drop)]
 pub struct ImageSection {
     pub name: Name,

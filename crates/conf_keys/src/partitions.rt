@@ -1,6 +1,8 @@
 //! The keys of a partition, from its settings in order.
 ghost use Rattle.std.specs.Prelude.{◌≡◌, ◌++◌, IfOk, OnOk, fold};
-ghost use Rattle.conf_keys.specs.Partitions.{given_holes, holes_of, partition_head_fault, partition_of, partition_values, type_at, with_hole, with_setting};
+ghost use Rattle.conf_keys.specs.Partitions.{given_holes, holes_of, partition_head_fault};
+ghost use Rattle.conf_keys.specs.Partitions.{partition_of, partition_values, type_at, with_hole};
+ghost use Rattle.conf_keys.specs.Partitions.{with_setting};
 ghost use Rattle.conf_keys.specs.Sections.{Answers};
 ghost use Rattle.conf_keys.specs.Within.{IsPartitionWithin};
 
@@ -117,8 +119,8 @@ fn partition_values(
     })
 }
 
-/// The keys of a section `partition`, or its first fault in order, where those of its name stand first.
-/// Takes memory.
+/// The keys of a section `partition`, or its first fault in order, where those of its name stand
+/// first. Takes memory.
 pub fn read_partition(
     alloc: Global,
     head: &Head,

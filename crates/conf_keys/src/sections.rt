@@ -2,7 +2,14 @@
 ghost use Rattle.std.specs.Prelude.{◌≡◌, IfOk, IfSome, IsSome, MatchResult};
 ghost use Rattle.conf_keys.specs.Checking.{step_of};
 ghost use Rattle.conf_keys.specs.Settings.{last_text};
-ghost use Rattle.conf_keys.specs.Sections.{Answers, fault_in, flash_head_fault, flash_of, flash_values, image_values, is_past, is_too_large, lacks_key, name_text, named_fault, numpebs_at, pebsize_at, block_size_at, config_of, config_values, hd_of, hd_section, hd_values, identifier_at, is_wide, number_at, plain_of, plain_values, section_fault, sector_at, size_at, sparse_head_fault, sparse_of, sparse_values, table_at, truth_at, unnamed_fault};
+ghost use Rattle.conf_keys.specs.Sections.{Answers, fault_in, flash_head_fault, flash_of};
+ghost use Rattle.conf_keys.specs.Sections.{flash_values, image_values, is_past, is_too_large};
+ghost use Rattle.conf_keys.specs.Sections.{lacks_key, name_text, named_fault, numpebs_at};
+ghost use Rattle.conf_keys.specs.Sections.{pebsize_at, block_size_at, config_of, config_values};
+ghost use Rattle.conf_keys.specs.Sections.{hd_of, hd_section, hd_values, identifier_at, is_wide};
+ghost use Rattle.conf_keys.specs.Sections.{number_at, plain_of, plain_values, section_fault};
+ghost use Rattle.conf_keys.specs.Sections.{sector_at, size_at, sparse_head_fault, sparse_of};
+ghost use Rattle.conf_keys.specs.Sections.{sparse_values, table_at, truth_at, unnamed_fault};
 ghost use Rattle.conf_keys.specs.Within.{IsFlashWithin, IsHdWithin, IsSizeFrom, IsSparseWithin};
 
 use crate::checking::{SectionFault, check, step};
@@ -139,9 +146,9 @@ fn hd_values(settings: &[Setting]) -> HdKeys
 }
 
 /// The keys of a section `hdimage`, or its first fault in order: that of its name, which it may not
-/// have, and then those of its settings. Sectors of 4096 bytes go with the kinds gpt and none of its last
-/// `partition-table-type` alone. `gpt-location` is at least twice the section's last sector size, or
-/// twice 512 where that is refused.
+/// have, and then those of its settings. Sectors of 4096 bytes go with the kinds gpt and none of
+/// its last `partition-table-type` alone. `gpt-location` is at least twice the section's last
+/// sector size, or twice 512 where that is refused.
 pub fn read_hd(head: &Head, settings: &[Setting]) -> Result<HdKeys, SectionFault>
     ensures keys { result ≡ hd_of head.now settings.now }
     ensures within { IfOk result IsHdWithin }
@@ -155,10 +162,10 @@ pub fn read_hd(head: &Head, settings: &[Setting]) -> Result<HdKeys, SectionFault
 // ---- sections with texts
 
 // The values, or want of memory.
-pub(crate) fn kept<Keys>(values: Result<Keys, NoMemory>) -> Result<Keys, SectionFault>
-    ensures { MatchResult values (λ keys. result ≡ Ok keys) (λ _. result ≡ Err SectionFault.NoMemory) }
+pub(crate) fn kept<Keys>(got: Result<Keys, NoMemory>) -> Result<Keys, SectionFault>
+    ensures { MatchResult got (λ keys. result ≡ Ok keys) (λ _. result ≡ Err SectionFault.NoMemory) }
 {
-    match values {
+    match got {
         Ok(keys) => Ok(keys),
         Err(NoMemory) => Err(SectionFault::NoMemory),
     }
@@ -267,8 +274,8 @@ fn sparse_values(alloc: Global, settings: &[Setting]) -> Result<SparseKeys, NoMe
     })
 }
 
-/// The keys of a section `android-sparse`, or its first fault in order, where a lacking `image` stands
-/// first, at the section's word. Takes memory.
+/// The keys of a section `android-sparse`, or its first fault in order, where a lacking `image`
+/// stands first, at the section's word. Takes memory.
 pub fn read_sparse(
     alloc: Global,
     head: &Head,
@@ -344,8 +351,8 @@ fn flash_values(alloc: Global, head: &Head, settings: &[Setting]) -> Result<Flas
     })
 }
 
-/// The keys of a section `flash` at the top, or its first fault in order. At the section's word stand
-/// those of a lacking name or key and of a device of more than 2^43 bytes. Takes memory.
+/// The keys of a section `flash` at the top, or its first fault in order. At the section's word
+/// stand those of a lacking name or key and of a device of more than 2^43 bytes. Takes memory.
 pub fn read_flash(
     alloc: Global,
     head: &Head,
@@ -369,8 +376,8 @@ pub fn image_head_fault(head: &Head) -> Option<SectionFault>
     named_fault(head)
 }
 
-/// The fault of one item of an image that is no list of holes. Where the image has a kind, the section
-/// is `Section::Image`, else `Section::Ready`; a section inside has no fault here.
+/// The fault of one item of an image that is no list of holes. Where the image has a kind, the
+/// section is `Section::Image`, else `Section::Ready`; a section inside has no fault here.
 pub fn item_fault(section: Section, item: &Setting) -> Option<SectionFault>
     ensures { result ≡ fault_in (step_of section 0 item.now) }
 {

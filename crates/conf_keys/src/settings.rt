@@ -1,6 +1,9 @@
 //! The settings of a section as they were read, and what a key's value may be.
 ghost use Rattle.std.specs.Prelude.{◌≡◌, option_copied, is_some, ◌*◌, IsTrue};
-ghost use Rattle.conf_keys.specs.Settings.{config_shape, fits, flash_shape, hd_shape, image_shape, last_of, last_text, partition_flag, partition_shape, plain_shape, ready_shape, shape_of, sparse_shape, takes_sections};
+ghost use Rattle.conf_keys.specs.Settings.{config_shape, fits, flash_shape, hd_shape, image_shape};
+ghost use Rattle.conf_keys.specs.Settings.{last_of, last_text, partition_flag, partition_shape};
+ghost use Rattle.conf_keys.specs.Settings.{plain_shape, ready_shape, shape_of, sparse_shape};
+ghost use Rattle.conf_keys.specs.Settings.{takes_sections};
 
 use crate::values;
 use conf_items::{Given, Setting, Value};

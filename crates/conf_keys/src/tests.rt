@@ -127,7 +127,8 @@ fn word(alloc: Global, text: &str, at: u64) -> Result<Word, NoMemory> {
     })
 }
 
-// The key stands at this place, its value or list at 1 behind it, and the values of a list from 2 on.
+// The key stands at this place, its value or list at 1 behind it, and the values of a list from 2
+// on.
 fn setting(alloc: Global, row: &Row, at: u64) -> Result<Setting, NoMemory> {
     let value = match row.2 {
         [only] => Value::One(word(alloc, only, at.wrapping_add(1))?),
@@ -366,6 +367,8 @@ fn faults_of_the_other_sections(rt: HostRuntime) -> Result<(), Fail> {
         Some(SectionFault::UnknownKey { place: at })
     );
     assert_eq!(rt; item_fault(Section::Config, &hook), None);
+    let shown = format!(in alloc; "{}", SectionFault::NoMemory)?;
+    assert_eq!(rt; shown.as_str(), "out of memory");
     Ok(())
 }
 

@@ -1,8 +1,16 @@
 //! What the text of a value stands for.
-ghost use Rattle.std.specs.Prelude.{◌≡◌, ◌≤◌, IfSome, ◌+◌, ◌-◌, ◌^◌, ◌*◌, map, reverse, length, IsTrue, take, drop};
-ghost use Rattle.std.specs.Char.{digit_value, is_ascii_digit, is_ascii_hexdigit, to_ascii_lowercase};
+ghost use Rattle.std.specs.Prelude.{◌≡◌, ◌≤◌, IfSome, ◌+◌, ◌-◌, ◌^◌, ◌*◌, map, reverse, length};
+ghost use Rattle.std.specs.Prelude.{IsTrue, take, drop};
+ghost use Rattle.std.specs.Char.{digit_value, is_ascii_digit, is_ascii_hexdigit};
+ghost use Rattle.std.specs.Char.{to_ascii_lowercase};
 ghost use Rattle.std.specs.List.{list_all, prefix_len};
-ghost use Rattle.conf_keys.specs.Values.{bytes_of, decimal_of, hexadecimal_of, hole_of, is_between, is_enclosed, is_decimal, is_hexadecimal, is_partition_name, is_space, is_word, front_trimmed, end_trimmed, has_needless_zero, number_between, number_of, power_between, sector_of, semicolon_of, size_from, size_of, sizes_of, small_value, table_of, trimmed_size, truth_of, type_of, unit_of};
+ghost use Rattle.conf_keys.specs.Values.{bytes_of, decimal_of, hexadecimal_of, hole_of, is_between};
+ghost use Rattle.conf_keys.specs.Values.{is_enclosed, is_decimal, is_hexadecimal};
+ghost use Rattle.conf_keys.specs.Values.{is_partition_name, is_space, is_word, front_trimmed};
+ghost use Rattle.conf_keys.specs.Values.{end_trimmed, has_needless_zero, number_between, number_of};
+ghost use Rattle.conf_keys.specs.Values.{power_between, sector_of, semicolon_of, size_from};
+ghost use Rattle.conf_keys.specs.Values.{size_of, sizes_of, small_value, table_of, trimmed_size};
+ghost use Rattle.conf_keys.specs.Values.{truth_of, type_of, unit_of};
 ghost use Rattle.uuid.specs.Text.{parsed};
 
 use crate::conf::Hole;

@@ -12,6 +12,7 @@ mod variables;
 pub use laws::{joined_texts, names_in_texts, texts_in_pieces};
 pub use lexing::lex;
 pub use tokens::{LexFault, Token, TokenKind};
+pub use variables::{name_length, variable_length};
 
 #[cfg(test)]
 mod tests;

@@ -28,8 +28,8 @@ fn name_bytes(text: &[u8]) -> usize
     text.iter().take_while(|b| continues_name(**b)).count()
 }
 
-// The length of the name at the front, 0 where there is none.
-fn name_length(text: &[u8]) -> usize
+/// How many bytes the name at the front has, 0 where there is none.
+pub fn name_length(text: &[u8]) -> usize
     ensures count { result ≡ name_len text.now }
     ensures within { result ≤ length text.now }
 {
@@ -65,7 +65,7 @@ fn body_length(text: &[u8]) -> Option<usize>
     Some(name + end_length(text.split_at(name).1)?)
 }
 
-// The length of the variable at the front of a text that begins with `${`.
+/// How many bytes the variable at the front has, of a text that begins with `${`; `None` where there is none.
 pub fn variable_length(text: &[u8]) -> Option<usize>
     requires { 2 ≤ length text.now }
     ensures there { result ≡ variable_len text.now }

@@ -23,6 +23,8 @@ use Rattle.conf_items.specs.declared.outline.Outline.{Outline}
 use Rattle.conf_items.specs.declared.outline.OpenSections.TheVariants.{Nothing}
 use Rattle.conf_walk.specs.declared.fault.WalkFault.{WalkFault}
 use Rattle.conf_walk.specs.declared.fault.WalkFault.TheVariants.{BadText, Unset, DeepInclude, TooLong, Missing}
+use Rattle.conf_walk.specs.declared.texts.Reading.{Reading}
+use Rattle.conf_walk.specs.declared.texts.Text.{Text}
 use Rattle.conf_walk.specs.declared.walking.Texts.{Texts}
 
 infixl 10 ◌>>=◌
@@ -43,18 +45,6 @@ when passes x refusal = if passes then Ok x else Err refusal
 abbrev pub refused_by : {A D E : Type 0} → (D → E) → Result A D → Result A E
 refused_by f (Ok x) = Ok x
 refused_by f (Err e) = Err (f e)
-
--- what was read up to here: the outline, the sum of all lengths, and the names of the texts
-pub record Reading : Type 0 where
-  pub outline : Outline
-  pub total : ℕ
-  pub names : List (List ℕ)
-
--- a text that is walked: its name, its number in the order of reading, and its bytes
-pub record Text : Type 0 where
-  pub name : List ℕ
-  pub number : ℕ
-  pub bytes : List ℕ
 
 -- ---- one token
 
@@ -115,25 +105,28 @@ tokens_walked included vars text (token ∷ rest) parser reading = do
 abbrev pub most_bytes : ℕ
 most_bytes = 1048576
 
--- the sum with this text, where it is not past the limit
-abbrev pub total_of : ℕ → List ℕ → Result ℕ WalkFault
-total_of before bytes = when (nat_le (before + length bytes) most_bytes) (before + length bytes) (TooLong (min (before + length bytes) (2 ^ 64 - 1)))
+-- a sum of lengths that is not past the limit
+abbrev pub in_limit : ℕ → Result ℕ WalkFault
+in_limit total = when (nat_le total most_bytes) total (TooLong (min total (2 ^ 64 - 1)))
 
-abbrev pub with_text : Reading → List ℕ → ℕ → Reading
-with_text reading name total = record reading { total = total; names = reading.names ++ name ∷ [] }
+-- the text of a name, where something was read before: its length is looked at first
+abbrev pub text_read : Tree → List ℕ → Reading → Result Text WalkFault
+text_read file name reading = do
+  bytes ← or_else (file name) (Missing name)
+  total ← in_limit (reading.total + length bytes)
+  tokens ← refused_by (BadText name) (tokens_of bytes)
+  Ok (record { name = name; number = length reading.names; bytes = bytes; tokens = tokens })
 
-abbrev pub text_in : Reading → List ℕ → List ℕ → Text
-text_in reading name bytes = record { name = name; number = length reading.names; bytes = bytes }
+abbrev pub with_text : Reading → Text → Reading
+with_text reading text = record reading { total = reading.total + length text.bytes; names = reading.names ++ text.name ∷ [] }
 
 -- ---- texts: the walk of a name, with so many nestings left for it
 
-abbrev pub text_walked : List Pair → Tree → ℕ → List ℕ → Reading → Result Reading WalkFault
+unfoldable pub text_walked : List Pair → Tree → ℕ → List ℕ → Reading → Result Reading WalkFault
 text_walked vars file zero name reading = Err (DeepInclude name)
 text_walked vars file (suc left) name reading = do
-  bytes ← or_else (file name) (Missing name)
-  total ← total_of reading.total bytes
-  tokens ← refused_by (BadText name) (tokens_of bytes)
-  tokens_walked (text_walked vars file left) vars (text_in reading name bytes) tokens start (with_text reading name total)
+  text ← text_read file name reading
+  tokens_walked (text_walked vars file left) vars text text.tokens start (with_text reading text)
 
 abbrev pub nothing_read : Reading
 nothing_read = record { outline = record { items = []; inside = Nothing }; total = 0; names = [] }

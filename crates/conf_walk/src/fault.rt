@@ -1,4 +1,4 @@
-use base_fields::Name;
+use base_fields::{Name, NoMemory};
 
 /// Why the texts of a configuration were not read: the first thing that was met.
 #[derive(Debug, Drop)]
@@ -20,4 +20,15 @@ pub enum WalkFault {
     FileFault,
     /// Memory was refused.
     NoMemory,
+}
+
+impl From<NoMemory> for WalkFault {
+    ghost use Rattle.std.specs.Prelude.{◌≡◌};
+    ghost use Rattle.conf_walk.specs.declared.fault.WalkFault.TheVariants.{NoMemory};
+
+    ghost from_gives = { λ _ e. e ≡ NoMemory };
+
+    fn from(_: NoMemory) -> WalkFault {
+        WalkFault::NoMemory
+    }
 }

@@ -3,8 +3,14 @@
 #![tactic(auto)]
 
 mod fault;
+mod running;
+mod steps;
+mod texts;
 mod walking;
 
 pub use conf_words::Vars;
 pub use fault::WalkFault;
 pub use walking::{Texts, read_texts};
+
+#[cfg(test)]
+mod tests;

@@ -1,13 +1,20 @@
-ghost use Rattle.std.specs.Prelude.{◌≡◌, IfErr};
+ghost use Rattle.std.specs.Prelude.{◌≡◌, ◌+◌, ◌<◌, ◌≤◌, ◌∷◌, ◌++◌, [], IfErr, IfOk, List, OnOk};
+ghost use Rattle.base_fields.specs.declared.names.Pair.{Pair};
 ghost use Rattle.outside.specs.Counts.{NoneFell};
 ghost use Rattle.conf_walk.specs.Answers.{Answers, HasCause};
-ghost use Rattle.conf_walk.specs.Walk.{texts_of};
+ghost use Rattle.conf_walk.specs.Stack.{IsStack, Leads, stack_walked, then_walked, work_left};
+ghost use Rattle.conf_walk.specs.Walk.{texts_in, texts_of};
 
+use crate::running::{OpenText, Stop, run_text};
+use crate::texts::{Reading, read_text};
 use crate::{Vars, WalkFault};
-use base_fields::{List, Name};
-use conf_items::TopItem;
+use base_fields::{List, Name, NoMemory};
+use conf_items::{Outline, TopItem};
 use outside::Files;
 use std::alloc::Global;
+
+/// The main text has nesting 0, and the deepest has 8.
+const NESTINGS: usize = 9;
 
 /// What the texts of a configuration say.
 #[derive(Debug, Drop)]
@@ -17,6 +24,87 @@ pub struct Texts {
     /// One name for each text that was read, in the order of reading, the main text first. The text of a
     /// [`conf_items::Place`] is the one of that number.
     pub names: List<Name>,
+}
+
+// The refusal of a text at a nesting above 8.
+fn too_deep(alloc: Global, name: &str) -> Result<WalkFault, NoMemory>
+    ensures { IfOk result (λ fault. fault ≡ WalkFault.DeepInclude name.now) }
+{
+    Ok(WalkFault::DeepInclude {
+        name: Name::of(alloc, name)?,
+    })
+}
+
+// Puts a text on the stack. Takes memory.
+fn push(stack: &mut Vec<OpenText>, text: OpenText) -> Result<(), WalkFault>
+    ensures ok { OnOk result (stack.new.items ≡ stack.old.items ++ text ∷ []) }
+    ensures fault { IfErr result (λ fault. fault ≡ WalkFault.NoMemory) }
+{
+    stack.push(text).map_err(|_| WalkFault::NoMemory)?;
+    Ok(())
+}
+
+// Reads the text of that name and puts it on the stack. Takes memory.
+fn enter<F: Files>(
+    alloc: Global,
+    files: &mut F,
+    name: &str,
+    stack: &mut Vec<OpenText>,
+    reading: Reading,
+) -> Result<Reading, WalkFault>
+    requires { IsStack stack.old.items reading }
+    ensures none_fell { NoneFell (F.counts files.old) (F.counts files.new) }
+    ensures cause { IfErr result (HasCause (F.counts files.old) (F.counts files.new)) }
+    ensures same_files { F.file files.new ≡ F.file files.old }
+    ensures stack { IfOk result (IsStack stack.new.items) }
+    ensures work { IfOk result (λ after. work_left stack.new.items after ≤ work_left stack.old.items reading + 1) }
+    ensures leads { F.told → (vars : List Pair) → Leads (then_walked vars (F.file files.old) stack.old.items name.now reading) (stack_walked vars (F.file files.old) stack.new.items) result }
+{
+    if stack.len() >= NESTINGS {
+        return Err(too_deep(alloc, name)?);
+    }
+    let source = read_text(alloc, files, name, &reading)?;
+    let after = reading.add(alloc, &source)?;
+    push(stack, OpenText::new(source))?;
+    Ok(after)
+}
+
+// Walks the innermost text up to its end, or to a text that it includes, which is then the innermost. Takes
+// memory.
+fn go_on<F: Files>(
+    alloc: Global,
+    files: &mut F,
+    vars: &Vars,
+    stack: &mut Vec<OpenText>,
+    text: OpenText,
+    reading: Reading,
+) -> Result<Reading, WalkFault>
+    requires { IsStack (stack.old.items ++ text ∷ []) reading }
+    ensures none_fell { NoneFell (F.counts files.old) (F.counts files.new) }
+    ensures cause { IfErr result (HasCause (F.counts files.old) (F.counts files.new)) }
+    ensures same_files { F.file files.new ≡ F.file files.old }
+    ensures stack { IfOk result (IsStack stack.new.items) }
+    ensures work { IfOk result (λ after. work_left stack.new.items after < work_left (stack.old.items ++ text ∷ []) reading) }
+    ensures leads { F.told → Leads (stack_walked vars.now (F.file files.old) (stack.old.items ++ text ∷ []) reading) (stack_walked vars.now (F.file files.old) stack.new.items) result }
+{
+    let stop = run_text(alloc, vars, text, reading)?;
+    match stop {
+        Stop::Ended(after) => Ok(after),
+        Stop::Includes(text, name, before) => {
+            push(stack, text)?;
+            let after = enter(alloc, files, name.text.text(), stack, before)?;
+            Ok(after)
+        }
+    }
+}
+
+// What the texts say, once all were read.
+fn texts_in(reading: Reading) -> Texts
+    ensures { result ≡ texts_in reading }
+{
+    let Reading { outline, names, .. } = reading;
+    let Outline { items, .. } = outline;
+    Texts { items, names }
 }
 
 /// Reads the text of that name with all that it includes. Takes memory. It reads each text once, and keeps
@@ -32,5 +120,10 @@ pub fn read_texts<F: Files>(
     ensures same_files { F.file files.new ≡ F.file files.old }
     ensures answers { F.told → Answers (texts_of vars.now (F.file files.old) name.now) result }
 {
-    Err(WalkFault::NoMemory)
+    let mut stack = Vec::new(alloc);
+    let mut reading = enter(alloc, files, name, &mut stack, Reading::new(alloc))?;
+    while let Some(text) = stack.pop() {
+        reading = go_on(alloc, files, vars, &mut stack, text, reading)?;
+    }
+    Ok(texts_in(reading))
 }

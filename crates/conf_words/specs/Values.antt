@@ -26,10 +26,11 @@ name_of text = take (name_len text) text
 abbrev pub rest_of : List ℕ → List ℕ
 rest_of text = drop (name_len text) text
 
--- the text in place of a value: behind `:-`, up to the first `}`
+-- the bytes up to the first `}`, or all
 abbrev pub before_brace : List ℕ → List ℕ
 before_brace text = take (prefix_len (λ b. not (b == 125)) text) text
 
+-- the text in place of a value stands behind `:-`
 abbrev pub default_of : List ℕ → Option (List ℕ)
 default_of text = if begins text (codes ":-") then Some (before_brace (drop 2 text)) else None
 
@@ -37,12 +38,13 @@ default_of text = if begins text (codes ":-") then Some (before_brace (drop 2 te
 abbrev pub value_or : List Pair → List ℕ → Option (List ℕ) → Result (List ℕ) (List ℕ)
 value_or vars name default = ok_or (option_or (lookup vars name) default) name
 
--- what the variable at the front of a text that begins with `${` stands for
-abbrev pub behind_dollar_value : List Pair → List ℕ → Result (List ℕ) (List ℕ)
-behind_dollar_value vars text = value_or vars (name_of text) (default_of (rest_of text))
+-- what a NAME and what belongs behind it stand for
+abbrev pub named_value : List Pair → List ℕ → Result (List ℕ) (List ℕ)
+named_value vars text = value_or vars (name_of text) (default_of (rest_of text))
 
+-- what the variable at the front of a text that begins with `${` stands for
 abbrev pub variable_value : List Pair → List ℕ → Result (List ℕ) (List ℕ)
-variable_value vars text = behind_dollar_value vars (drop 2 text)
+variable_value vars text = named_value vars (drop 2 text)
 
 -- ---- the parts of a text
 
@@ -68,6 +70,7 @@ abbrev pub part_len : Bool → List ℕ → ℕ
 part_len true text = unwrap_or (quoted_part text) 1
 part_len false text = unwrap_or (word_part text) 1
 
+-- what it stands for, or the name that has no value
 abbrev pub part_value : List Pair → Bool → List ℕ → Result (List ℕ) (List ℕ)
 part_value vars true text = quoted_value vars text
 part_value vars false text = word_value vars text

@@ -1,6 +1,11 @@
 //! The value of one token of a configuration: its text, with the variables replaced.
 #![tactic(auto)]
 
+mod parts;
 mod values;
+mod variables;
 
 pub use values::{ValueFault, Vars, value_of};
+
+#[cfg(test)]
+mod tests;

@@ -9,3 +9,4 @@ pub mod SlotReads
 pub mod HeaderReads
 pub mod ReadsBack
 pub mod Parts
+mod FlagLemmas

@@ -6,3 +6,4 @@ pub mod Span
 pub mod Gpt
 pub mod Reading
 pub mod Parts
+pub mod Flags

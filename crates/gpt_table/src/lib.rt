@@ -2,11 +2,13 @@
 #![tactic(auto)]
 
 mod entry;
+mod flags;
 mod header;
 mod laws;
 mod table;
 
 pub use entry::GptEntry;
+pub use flags::Flags;
 pub use header::GptHeader;
 pub use laws::{gpt_holds, gpt_reads_back};
 pub use table::{GptHeads, GptSpec, gpt};

@@ -165,3 +165,57 @@ fn no_backup(rt: HostRuntime) -> Result<(), Fail> {
     gpt_reads_back();
     Ok(())
 }
+
+#[test]
+fn attribute_bits(rt: HostRuntime) -> Result<(), Fail> {
+    let none = Flags {
+        bootable: false,
+        read_only: false,
+        hidden: false,
+        no_automount: false,
+    };
+    let table: [(Flags, u64); 6] = [
+        (none, 0),
+        (
+            Flags {
+                bootable: true,
+                ..none
+            },
+            4,
+        ),
+        (
+            Flags {
+                read_only: true,
+                ..none
+            },
+            0x1000_0000_0000_0000,
+        ),
+        (
+            Flags {
+                hidden: true,
+                ..none
+            },
+            0x4000_0000_0000_0000,
+        ),
+        (
+            Flags {
+                no_automount: true,
+                ..none
+            },
+            0x8000_0000_0000_0000,
+        ),
+        (
+            Flags {
+                bootable: true,
+                read_only: true,
+                hidden: true,
+                no_automount: true,
+            },
+            0xD000_0000_0000_0004,
+        ),
+    ];
+    for (flags, attributes) in table.iter() {
+        assert_eq!(rt; flags.attributes(), *attributes);
+    }
+    Ok(())
+}

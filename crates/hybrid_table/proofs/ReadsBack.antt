@@ -3,11 +3,11 @@ use Rattle.std.specs.Prelude.{◌≡◌, ℕ, zero, suc, ◌+◌, ◌*◌, ◌<�
 use Rattle.std.proofs.Common.{arith, inl, inr, lit<, refl}
 use Rattle.std.proofs.lemmas.Bool.{cases_lt}
 use Rattle.std.proofs.lemmas.List.{get_or_past}
-use Rattle.mbr_table.specs.Mbr.{no_entry, entry_of}
+use Rattle.mbr_table.specs.Mbr.{no_entry, entry_of, protective}
 use Rattle.mbr_table.proofs.ReadsBack.{mbr_reads_back}
 use Rattle.mbr_table.specs.Reading.{EntryFits, slot_at}
 use Rattle.mbr_table.specs.declared.mbr.MbrEntry.{MbrEntry}
-use Rattle.hybrid_table.specs.Hybrid.{HybridFits, HybridReadsBack, hybrid_spec, protective}
+use Rattle.hybrid_table.specs.Hybrid.{HybridFits, HybridReadsBack, hybrid_spec}
 
 -- the numbers of the protective entry fit
 protective_fits : (front : ℕ) → EntryFits (protective front)

@@ -1,16 +1,12 @@
 -- The master boot record beside a GUID partition table: an entry that protects the table, and up to three partitions.
-use Rattle.std.specs.Prelude.{◌≡◌, ℕ, ◌+◌, ◌-◌, ◌*◌, ◌^◌, ◌<◌, ◌≤◌, min, List, [], ◌∷◌, false, length, slice_index_or}
+use Rattle.std.specs.Prelude.{◌≡◌, ℕ, ◌+◌, ◌*◌, ◌^◌, ◌<◌, ◌≤◌, List, [], ◌∷◌, length, slice_index_or}
 use Rattle.base_fields.specs.Fields.{Field, byte_of, number_at}
-use Rattle.mbr_table.specs.Mbr.{no_entry, mbr_fields}
+use Rattle.mbr_table.specs.Mbr.{no_entry, mbr_fields, protective}
 use Rattle.mbr_table.specs.Reading.{EntryFits, IsMarked, slot_at}
 use Rattle.mbr_table.specs.declared.mbr.MbrEntry.{MbrEntry}
 use Rattle.mbr_table.specs.declared.mbr.MbrSpec.{MbrSpec}
 
--- the entry from sector 1 to the front end, which is in sectors
-abbrev pub protective : ℕ → MbrEntry
-protective front = record { active = false; kind = 0xEE; first = 1; count = min (front - 1) 0xFFFFFFFF }
-
--- the protective entry, and the given ones in order behind it
+-- the entry that protects the sectors up to the front end, and the given ones in order behind it
 abbrev pub hybrid_spec : ℕ → ℕ → List MbrEntry → MbrSpec
 hybrid_spec signature front given = record {
   signature = signature;

@@ -1,25 +1,9 @@
 ghost use Rattle.std.specs.Prelude.{◌≡◌, ℕ, ◌+◌, ◌<◌, ◌≤◌, All, length, slice_index, slice_index_or};
 ghost use Rattle.base_fields.specs.Fields.{byte_of};
 ghost use Rattle.mbr_table.specs.Mbr.{HasLast, no_entry};
-ghost use Rattle.hybrid_table.specs.Hybrid.{hybrid_fields, protective};
+ghost use Rattle.hybrid_table.specs.Hybrid.{hybrid_fields};
 
-use mbr_table::{MbrEntry, MbrSpec, mbr_bytes};
-
-/// The type of the entry that keeps the GUID partition table from being taken for free room.
-const PROTECTIVE: u8 = 0xEE;
-
-/// The entry from sector 1 to the front end, in sectors.
-fn protective_entry(front: u64) -> MbrEntry
-    requires { 2 ≤ front }
-    ensures { result ≡ protective front }
-{
-    MbrEntry {
-        active: false,
-        kind: PROTECTIVE,
-        first: 1,
-        count: (front - 1).min(u64::from(u32::MAX)) as u32,
-    }
-}
+use mbr_table::{MbrEntry, MbrSpec, mbr_bytes, protective_entry};
 
 /// The entry number `k`, or an empty one where none is given.
 fn given_entry(entries: &[MbrEntry], k: usize) -> MbrEntry

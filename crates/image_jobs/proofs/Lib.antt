@@ -1,3 +1,2 @@
 -- lemmas
 mod RunLemmas
-mod SmallTextLemmas

@@ -4,5 +4,5 @@ pub mod FullName
 pub mod Layout
 pub mod Request
 pub mod Run
-pub mod SmallText
 pub mod Stages
+pub mod Task

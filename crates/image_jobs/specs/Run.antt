@@ -1,5 +1,5 @@
 -- What an answer says of the plan, of the counts, of the files and of the lines.
-use Rattle.std.specs.Prelude.{◌≡◌, ℕ, List, [], ◌∷◌, Option, Result, Ok, Err, IsOkAnd, MatchResult, IsOk, take}
+use Rattle.std.specs.Prelude.{◌≡◌, ℕ, List, [], ◌∷◌, Option, Some, None, Result, Ok, Err, IsOkAnd, MatchResult, IsOk, take}
 use Rattle.outside.specs.Counts.{Counts, Rose}
 use Rattle.outside.specs.Files.{Tree, OthersStay}
 use Rattle.outside.specs.Printer.{added}
@@ -10,9 +10,14 @@ use Rattle.answer_lines.specs.declared.answer.Report.{Report}
 use Rattle.answer_lines.specs.declared.answer.Report.TheVariants as report
 use Rattle.image_jobs.specs.Layout.{Layout, Built}
 
+-- how many images are built
+abbrev pub count_of : Option Layout → ℕ
+count_of None = 0
+count_of (Some layout) = 1
+
 -- the answer is the planned one, or a call failed or memory was refused; a line may fail where the work is done
-abbrev pub Answers : Result Layout Answer → Answer → Type 0
-Answers plan (Done said) = IsOk plan × (said ≡ report.Built 1)
+abbrev pub Answers : Result (Option Layout) Answer → Answer → Type 0
+Answers plan (Done said) = IsOkAnd plan (λ made. said ≡ report.Built (count_of made))
 Answers plan PrintFault = IsOk plan
 Answers plan FileFault = Unit {0}
 Answers plan NoMemory = Unit {0}
@@ -27,22 +32,37 @@ HasCause before now lines_before lines_now (Missing name) = Rose before.absences
 HasCause before now lines_before lines_now (SourceShort name at) = Rose before.ends now.ends
 HasCause before now lines_before lines_now other = Unit {0}
 
+-- the image is built, or where none is to be, nothing has changed
+abbrev pub Makes : Tree → Tree → Option Layout → Type 0
+Makes before after None = after ≡ before
+Makes before after (Some layout) = Built layout before after
+
 -- where the work is done, the image is built
-abbrev pub HasBuilt : Result Layout Answer → Tree → Tree → Answer → Type 0
-HasBuilt plan before after (Done said) = IsOkAnd plan (λ layout. Built layout before after)
-HasBuilt plan before after PrintFault = IsOkAnd plan (λ layout. Built layout before after)
+abbrev pub HasBuilt : Result (Option Layout) Answer → Tree → Tree → Answer → Type 0
+HasBuilt plan before after (Done said) = IsOkAnd plan (Makes before after)
+HasBuilt plan before after PrintFault = IsOkAnd plan (Makes before after)
 HasBuilt plan before after refusal = Unit {0}
 
+-- every name but the image's is as before
+abbrev pub ChangesOnly : Tree → Tree → Option Layout → Type 0
+ChangesOnly before after None = after ≡ before
+ChangesOnly before after (Some layout) = OthersStay layout.file before after
+
 -- whatever is answered, every name but the image's is as before
-abbrev pub Changes : Result Layout Answer → Tree → Tree → Type 0
-Changes plan before after = MatchResult plan (λ layout. OthersStay layout.file before after) (λ _. after ≡ before)
+abbrev pub Changes : Result (Option Layout) Answer → Tree → Tree → Type 0
+Changes plan before after = MatchResult plan (ChangesOnly before after) (λ _. after ≡ before)
+
+-- the lines of what is made
+abbrev pub made_lines : Option Layout → List (List ℕ)
+made_lines None = built_text 0 ∷ []
+made_lines (Some layout) = image_text layout.file layout.size ∷ built_text 1 ∷ []
 
 -- the lines of an answer
-abbrev pub done_lines : Result Layout Answer → List (List ℕ)
-done_lines (Ok layout) = image_text layout.file layout.size ∷ built_text 1 ∷ []
+abbrev pub done_lines : Result (Option Layout) Answer → List (List ℕ)
+done_lines (Ok made) = made_lines made
 done_lines (Err refusal) = []
 
-abbrev pub lines_of : Result Layout Answer → Answer → List (List ℕ)
+abbrev pub lines_of : Result (Option Layout) Answer → Answer → List (List ℕ)
 lines_of plan (Done said) = done_lines plan
 lines_of plan PrintFault = done_lines plan
 lines_of plan refusal = error_text refusal ∷ []

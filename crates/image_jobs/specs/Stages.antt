@@ -1,38 +1,36 @@
 -- What each stage of `build` gives of the plan, and the answer that its fault stands for.
-use Rattle.std.specs.Prelude.{◌≡◌, ℕ, List, Result, Ok, Err}
+use Rattle.std.specs.Prelude.{◌≡◌, [], Result, Ok, Err}
 use Rattle.outside.specs.Counts.{Counts, Rose}
 use Rattle.outside.specs.declared.files.ComposeFault.{ComposeFault}
 use Rattle.outside.specs.declared.files.ComposeFault.TheVariants as compose
 use Rattle.answer_lines.specs.declared.answer.Answer.{Answer}
-use Rattle.answer_lines.specs.declared.answer.Answer.TheVariants.{TooLong, TooFar, Missing, SourceShort, FileFault, NoMemory, NotBuilt}
-use Rattle.image_jobs.specs.declared.building.TextFault.{TextFault}
-use Rattle.image_jobs.specs.declared.building.TextFault.TheVariants as text
+use Rattle.answer_lines.specs.declared.answer.Answer.TheVariants.{TooFar, Missing, SourceShort, FileFault, NoMemory, NotBuilt}
 use Rattle.image_jobs.specs.declared.building.PlaceFault.{PlaceFault}
 use Rattle.image_jobs.specs.declared.building.PlaceFault.TheVariants as place
-use Rattle.image_jobs.specs.declared.small_text.SmallConf.{SmallConf}
-use Rattle.image_jobs.specs.Build.{size_limit}
+use Rattle.image_jobs.specs.declared.building.ReadFault.{ReadFault}
+use Rattle.image_jobs.specs.declared.building.ReadFault.TheVariants as read
+use Rattle.image_jobs.specs.declared.task.OneImage.{OneImage}
+use Rattle.image_jobs.specs.declared.task.TaskFault.TheVariants as task
+use Rattle.image_jobs.specs.Build.{conf_answer, size_limit}
 
--- the answer of a text's fault
-abbrev pub text_answer : List ℕ → TextFault → Answer
-text_answer conf text.Missing = Missing conf
-text_answer conf text.FileFault = FileFault
-text_answer conf (text.TooLong total) = TooLong total
-text_answer conf (text.SourceShort at) = SourceShort conf at
-text_answer conf text.NotBuilt = NotBuilt conf
-text_answer conf text.NoMemory = NoMemory
+-- the answer of a fault of the configuration or of what it asks for
+abbrev pub task_answer : ReadFault → Answer
+task_answer (read.Conf fault) = conf_answer fault
+task_answer (read.Task task.NotBuilt) = NotBuilt []
+task_answer (read.Task task.NoMemory) = NoMemory
 
 -- the answer of a fault of the placing
-abbrev pub place_answer : SmallConf → PlaceFault → Answer
-place_answer conf place.Missing = Missing conf.source
-place_answer conf place.FileFault = FileFault
-place_answer conf (place.TooFar number) = TooFar conf.part number size_limit
+abbrev pub place_answer : OneImage → PlaceFault → Answer
+place_answer one place.Missing = Missing one.source
+place_answer one place.FileFault = FileFault
+place_answer one (place.TooFar number) = TooFar one.part number size_limit
 
 -- the answer of a fault of the composing
-abbrev pub compose_answer : SmallConf → ComposeFault → Answer
-compose_answer conf (compose.Missing part) = Missing conf.source
-compose_answer conf compose.FileFault = FileFault
-compose_answer conf (compose.SourceShort part at) = SourceShort conf.source at
-compose_answer conf compose.NoMemory = NoMemory
+abbrev pub compose_answer : OneImage → ComposeFault → Answer
+compose_answer one (compose.Missing part) = Missing one.source
+compose_answer one compose.FileFault = FileFault
+compose_answer one (compose.SourceShort part at) = SourceShort one.source at
+compose_answer one compose.NoMemory = NoMemory
 
 -- a refusal is the wanted one, or a call failed or memory was refused
 abbrev pub Refuses : {A : Type 0} → Result A Answer → Answer → Type 0

@@ -5,8 +5,9 @@ mod building;
 mod printing;
 mod request;
 mod running;
-mod small_text;
+mod task;
 
+pub use conf_sections::Vars;
 pub use running::run;
 
 #[cfg(test)]

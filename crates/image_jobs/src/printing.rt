@@ -37,6 +37,20 @@ pub fn report_built<P: Printer>(image: &str, size: u64, out: &mut P) -> Answer
     }
 }
 
+/// Prints the line of a build of no image, and answers so.
+pub fn report_nothing<P: Printer>(out: &mut P) -> Answer
+    ensures answer { LineAnswer (report.Built 0) (P.faults out.old) (P.faults out.new) result }
+    ensures prints { Prints (built_text 0 ∷ []) (P.lines out.old) (P.lines out.new) (P.faults out.old) (P.faults out.new) }
+    ensures none_fell { P.faults out.old ≤ P.faults out.new }
+{
+    let mut room = [0; LINE_ROOM];
+    let length = built_line(0, &mut room);
+    match out.line(&room[..length]) {
+        Ok(()) => Answer::Done(Report::Built { images: 0 }),
+        Err(PrintErr) => Answer::PrintFault,
+    }
+}
+
 fn print_built<P: Printer>(image: &str, size: u64, out: &mut P) -> Result<(), PrintErr>
     ensures ok { OnOk result (P.faults out.new ≡ P.faults out.old) }
     ensures failed { OnErr result (Rose (P.faults out.old) (P.faults out.new)) }

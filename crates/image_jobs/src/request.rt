@@ -7,13 +7,13 @@ use base_fields::{Name, NoMemory};
 use job_words::{Job, WordFault, read_words};
 use std::alloc::Global;
 
-/// A build that the words ask for: its configuration, and the paths of its inputs and of its outputs, empty where
-/// none is given.
+/// A build that the words ask for: its configuration, and the paths of its inputs and of its outputs, where they are
+/// given. A path of the words goes before that of the configuration.
 #[derive(Debug, Drop)]
 pub struct Request {
     pub conf: Name,
-    pub input: Name,
-    pub output: Name,
+    pub input: Option<Name>,
+    pub output: Option<Name>,
 }
 
 /// The build that the words ask for. Commands that aren't there yet are no words.
@@ -28,25 +28,27 @@ pub fn requested(alloc: Global, words: &Vec<String>) -> Result<Request, WordFaul
             outputpath,
         } => Ok(Request {
             conf,
-            input: path(alloc, inputpath),
-            output: path(alloc, outputpath),
+            input: inputpath,
+            output: outputpath,
         }),
         _ => Err(WordFault::Usage),
     }
 }
 
-// A path that may be given.
-fn path(alloc: Global, given: Option<Name>) -> Name
-    ensures { result ≡ unwrap_or given [] }
+// The path that counts.
+pub fn path<'a>(words: &'a Option<Name>, conf: &'a Name) -> &'a str
+    ensures { result.now ≡ unwrap_or words.now conf.now }
 {
-    given.unwrap_or(Name::from_string(String::new(alloc)))
+    match words {
+        Some(path) => path.text(),
+        None => conf.text(),
+    }
 }
 
 /// The full name of a file under a path.
-pub fn under(alloc: Global, path: &Name, name: &str) -> Result<Name, NoMemory>
+pub fn under(alloc: Global, path: &str, name: &str) -> Result<Name, NoMemory>
     ensures { IfOk result (λ full. full ≡ full_name path.now name.now) }
 {
-    let path = path.text();
     if name.starts_with('/') || path.is_empty() {
         return Name::of(alloc, name);
     }

@@ -1,5 +1,5 @@
 -- The master boot record from its disk signature on (UEFI 2.10, section 5.2.1), as fields at their offsets in the image.
-use Rattle.std.specs.Prelude.{◌≡◌, ℕ, ◌+◌, ◌-◌, ◌<◌, List, [], ◌∷◌, ◌++◌, Bool, false, ◌&&◌, ◌==◌, if◌then◌else◌, slice_index_or}
+use Rattle.std.specs.Prelude.{◌≡◌, ℕ, ◌+◌, ◌-◌, ◌<◌, min, List, [], ◌∷◌, ◌++◌, Bool, false, ◌&&◌, ◌==◌, if◌then◌else◌, slice_index_or}
 use Rattle.base_fields.specs.Fields.{Field, number}
 use Rattle.mbr_table.specs.Chs.{Address, address_of, nowhere, chs_bytes}
 use Rattle.mbr_table.specs.declared.mbr.MbrEntry.{MbrEntry}
@@ -38,6 +38,11 @@ entry_fields at start e =
     ∷ number (at + 8) 4 e.first
     ∷ number (at + 12) 4 e.count
     ∷ []
+
+-- the entry that protects the GUID partition table of a disk of so many sectors: from sector 1 to the last one, and no
+-- more of them than the field holds (UEFI 2.10, section 5.2.3)
+abbrev pub protective : ℕ → MbrEntry
+protective sectors = record { active = false; kind = 0xEE; first = 1; count = min (sectors - 1) 0xFFFFFFFF }
 
 -- 55 AA, which ends a boot record
 abbrev pub mark : Field

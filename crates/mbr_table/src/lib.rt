@@ -6,7 +6,7 @@ mod laws;
 mod mbr;
 
 pub use laws::mbr_reads_back;
-pub use mbr::{MARK, MbrEntry, MbrSpec, mbr_bytes, put_entry};
+pub use mbr::{MARK, MbrEntry, MbrSpec, mbr_bytes, protective_entry, put_entry};
 
 #[cfg(test)]
 mod tests;

@@ -1,12 +1,15 @@
 ghost use Rattle.std.specs.Prelude.{◌≡◌, ℕ, ◌+◌, ◌<◌, ◌≤◌, All, length, slice_index};
 ghost use Rattle.base_fields.specs.Fields.{byte_of, written, joined};
-ghost use Rattle.mbr_table.specs.Mbr.{HasLast, entry_fields, mbr_fields};
+ghost use Rattle.mbr_table.specs.Mbr.{HasLast, entry_fields, mbr_fields, protective};
 
 use crate::chs::chs;
 use base_fields::put_u32;
 
 /// The status of an active entry.
 const ACTIVE: u8 = 0x80;
+
+/// The type of the entry that keeps a GUID partition table from being taken for free room.
+const PROTECTIVE: u8 = 0xEE;
 
 /// What each boot record ends in, at 510.
 pub const MARK: [u8; 2] = [0x55, 0xAA];
@@ -44,6 +47,20 @@ impl MbrEntry {
         ensures { result ≡ is_empty self.now }
     {
         self.kind == 0 && self.first == 0 && self.count == 0
+    }
+}
+
+/// The entry that protects the GUID partition table of a disk of so many sectors, from sector 1 to
+/// the last one (UEFI 2.10, section 5.2.3).
+pub fn protective_entry(sectors: u64) -> MbrEntry
+    requires { 2 ≤ sectors }
+    ensures { result ≡ protective sectors }
+{
+    MbrEntry {
+        active: false,
+        kind: PROTECTIVE,
+        first: 1,
+        count: (sectors - 1).min(u64::from(u32::MAX)) as u32,
     }
 }
 

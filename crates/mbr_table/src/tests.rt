@@ -79,3 +79,34 @@ fn an_extended_partition(rt: HostRuntime) -> Result<(), Fail> {
     mbr_reads_back();
     Ok(())
 }
+
+#[test]
+fn entries_that_protect_a_table(rt: HostRuntime) -> Result<(), Fail> {
+    let none = MbrEntry::EMPTY;
+    // A disk of 2,114,048 bytes in sectors of 512, one of 2,117,632 in sectors of 4,096, and the
+    // first of which the field can't say the size.
+    let table: [(u64, [u8; 16]); 3] = [
+        (
+            4129,
+            [
+                0, 0, 2, 0, 0xEE, 0x41, 0x22, 0, 1, 0, 0, 0, 0x20, 0x10, 0, 0,
+            ],
+        ),
+        (517, [0, 0, 2, 0, 0xEE, 8, 0x0D, 0, 1, 0, 0, 0, 4, 2, 0, 0]),
+        (
+            0x1_0000_0001,
+            [
+                0, 0, 2, 0, 0xEE, 0xFE, 0xFF, 0xFF, 1, 0, 0, 0, 0xFF, 0xFF, 0xFF, 0xFF,
+            ],
+        ),
+    ];
+    for (sectors, entry) in table.iter() {
+        let bytes = mbr_bytes(&MbrSpec {
+            signature: 0,
+            entries: [protective_entry(*sectors), none, none, none],
+        });
+        assert_eq!(rt; &bytes[6..22], entry.as_slice());
+        assert_eq!(rt; &bytes[22..70], [0u8; 48].as_slice());
+    }
+    Ok(())
+}

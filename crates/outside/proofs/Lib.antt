@@ -9,4 +9,5 @@ mod ReadLemmas
 pub mod RecordLemmas
 mod ReplayLemmas
 mod TearLemmas
+mod TearPlaces
 mod WriteLemmas

@@ -1,13 +1,14 @@
 -- Calls that are recorded one behind the other.
-use Rattle.std.proofs.Common.{◌≡◌, ℕ, zero, suc, ◌+◌, ◌<◌, ◌≤◌, List, [], ◌∷◌, ◌++◌, All, length, map, reverse, take, drop, get_or, refl, ap, sym, ◌∙◌, arith}
+use Rattle.std.proofs.Common.{◌≡◌, ℕ, zero, suc, ◌+◌, ◌<◌, ◌≤◌, List, [], ◌∷◌, ◌++◌, All, AllPairs, length, map, reverse, take, drop, get_or, refl, ap, sym, ◌∙◌, arith}
 use Rattle.std.proofs.lemmas.Grind.{common_steps}
 use Rattle.std.proofs.lemmas.List.{take-append-le, drop-append-le, drop_at, take_all, take_more, map-append, reverse-append}
-use Rattle.std.proofs.lemmas.List.Elements.{All-head, All-tail}
+use Rattle.std.proofs.lemmas.List.Elements.{All-get_or, All-head, All-tail}
+use Rattle.std.proofs.lemmas.List.Quantifiers.{all_pairs_push}
 use Rattle.outside.specs.declared.record.Entry.{Entry}
 use Rattle.base_fields.specs.Fields.{written}
 use Rattle.outside.specs.History.{over}
 use Rattle.outside.proofs.HistoryLemmas.{over_written}
-use Rattle.outside.specs.Record.{effect_of, call_of, calls_of, IsWithin}
+use Rattle.outside.specs.Record.{effect_of, call_of, calls_of, IsWithin, StandsBefore}
 
 -- bytes within a text, of which more stand behind
 slice_same : (text more : List ℕ) (from len : ℕ) → from + len ≤ length text → take len (drop from (text ++ more)) ≡ take len (drop from text)
@@ -90,3 +91,7 @@ over_cut old at n bytes whole few =
 -- bytes over others, all of them inside
 pub over_inside : (old : List ℕ) (at : ℕ) (bytes : List ℕ) → at + length bytes ≤ length old → written old at bytes ≡ over old at bytes
 over_inside old at bytes inside = sym (over_written old at bytes inside)
+
+-- an entry behind those whose bytes all stand before its own
+pub apart_more : (entries : List Entry) (entry : Entry) (size : ℕ) → AllPairs StandsBefore entries → All (IsWithin size) entries → entry.from ≡ size → AllPairs StandsBefore (entries ++ entry ∷ [])
+apart_more entries entry size apart within from = all_pairs_push StandsBefore entries entry apart (λ k d below. let e = All-get_or (IsWithin size) entries k d below within in omega (arith, e, from))

@@ -1,5 +1,5 @@
 -- Which calls of an object in memory fail.
-use Rattle.std.specs.Prelude.{◌≡◌, ℕ, ◌+◌, ◌-◌, ◌^◌, ◌∷◌, ◌++◌, List, [], min}
+use Rattle.std.specs.Prelude.{◌≡◌, ℕ, ◌+◌, ◌-◌, ◌^◌, ◌∷◌, ◌++◌, List, [], Option, None, Some, min}
 
 -- the number of the next call, the numbers of those that fail, and how many have failed
 pub record Calls : Type 0 where
@@ -23,3 +23,8 @@ more n = min (n + 1) (2 ^ 64 - 1)
 pub record IsNext (old new : Calls) : Type 0 where
   pub next : new.next ≡ more old.next
   pub failing : new.failing ≡ old.failing
+
+-- how many more calls pass after one more, where that was said
+abbrev pub one_less : Option ℕ → Option ℕ
+one_less None = None
+one_less (Some calls) = Some (calls - 1)

@@ -1,5 +1,5 @@
 -- What a stop leaves of a bench in memory: which pending calls there are, and the image where some of them are kept.
-use Rattle.std.specs.Prelude.{ℕ, ◌+◌, List, [], ◌∷◌, length, take, max, min, nat_le, nat_lt, Bool, true, false, ◌&&◌, ◌||◌, if◌then◌else◌, slice_index_or}
+use Rattle.std.specs.Prelude.{ℕ, ◌+◌, List, [], ◌∷◌, length, take, max, min, nat_le, nat_lt, Bool, true, false, ◌&&◌, ◌||◌, ◌-◌, if◌then◌else◌, slice_index_or, slice_set}
 use Rattle.outside.specs.declared.bench.Dev.{Dev}
 use Rattle.outside.specs.declared.bench.Dev.TheVariants.{Target, Journal}
 use Rattle.outside.specs.History.{Effect, Writes, Grows, Settles, Names, Rests, Call, effect_on, over, lengthened, reads_of}
@@ -50,6 +50,22 @@ wrote_at Rests at = false
 abbrev pub is_pending_at : Both ℕ → Dev → ℕ → List Call → Bool
 is_pending_at settled dev at [] = false
 is_pending_at settled dev at (call ∷ calls) = (is_pending settled call calls && wrote_at (effect_on call.dev dev call.effect) at) || is_pending_at settled dev at calls
+
+-- a write, found by a stop with this byte at a place of its device
+abbrev pub torn_effect : Effect → ℕ → ℕ → Effect
+torn_effect (Writes from bytes found) at byte = Writes from bytes (slice_set found (at - from) byte)
+torn_effect (Grows len) at byte = Grows len
+torn_effect Settles at byte = Settles
+torn_effect (Names name) at byte = Names name
+torn_effect Rests at byte = Rests
+
+-- the calls, where the last pending write that covers a place of a device is found with this byte there
+abbrev pub torn_calls : Both ℕ → Dev → ℕ → ℕ → List Call → List Call
+torn_calls settled dev at byte [] = []
+torn_calls settled dev at byte (call ∷ calls) =
+    if is_pending settled call calls && wrote_at (effect_on call.dev dev call.effect) at
+    then record { dev = call.dev; effect = torn_effect call.effect at byte } ∷ calls
+    else call ∷ torn_calls settled dev at byte calls
 
 -- whether the pending call behind these is kept: it is the one of a number that says so
 abbrev pub is_kept : Both ℕ → List Bool → List Call → Bool

@@ -1,5 +1,5 @@
 -- How the calls on a bench in memory are recorded.
-use Rattle.std.specs.Prelude.{◌≡◌, ℕ, ◌+◌, ◌*◌, ◌≤◌, List, All, length, map, reverse, take, drop, Vec, vec_capacity}
+use Rattle.std.specs.Prelude.{◌≡◌, ℕ, ◌+◌, ◌*◌, ◌≤◌, List, Option, None, Some, All, AllPairs, length, map, reverse, take, drop, slice_set, Vec, vec_capacity}
 use Rattle.std.specs.Global.{Global}
 use Rattle.outside.specs.declared.record.Entry.{Entry}
 use Rattle.outside.specs.declared.record.Kind.{Kind}
@@ -26,9 +26,19 @@ calls_of bytes found entries = reverse (map (call_of bytes found) entries)
 abbrev pub IsWithin : ℕ → Entry → Type 0
 IsWithin size entry = entry.from + entry.len ≤ size
 
+-- an entry's bytes stand before another's
+abbrev pub StandsBefore : Entry → Entry → Type 0
+StandsBefore one later = one.from + one.len ≤ later.from
+
+-- the bytes of all calls with this one at a place among them, where there is one
+abbrev pub put_at : Option ℕ → ℕ → List ℕ → List ℕ
+put_at None byte all = all
+put_at (Some place) byte all = slice_set all place byte
+
 -- the entries and their bytes fit the room that they have used, and all the room was taken
 pub record IsRecorded (entries : Vec Entry Global) (bytes found : Vec ℕ Global) (used room : ℕ) : Type 0 where
   pub within : All (IsWithin (length bytes.items)) entries.items
+  pub apart : AllPairs StandsBefore entries.items
   pub found_too : length found.items ≡ length bytes.items
   pub fits : 32 * length entries.items + length bytes.items ≤ used
   pub used_room : used ≤ room

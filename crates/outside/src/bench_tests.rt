@@ -1,4 +1,4 @@
-ghost use Rattle.std.specs.Prelude.{◌≡◌, ◌≢◌, ◌+◌, ◌*◌, ◌<◌, ◌≤◌, length, take, slice_index};
+ghost use Rattle.std.specs.Prelude.{◌≡◌, ◌≢◌, ◌∷◌, [], IfOk, ◌+◌, ◌*◌, ◌<◌, ◌≤◌, length, take, slice_index};
 ghost use Rattle.outside.specs.Disk.{EachPair, EachSince};
 ghost use Rattle.outside.specs.Meter.{IsAttached, Costs, SameNames};
 
@@ -103,6 +103,18 @@ fn tear(bench: &mut MemBench, dev: Dev, at: u64, byte: u8) {
     }
 }
 
+/// A bench whose last stop kept a write of two bytes, of which it found the second as another.
+fn torn_write(alloc: Global, byte: u8) -> Result<MemBench, NoMemory>
+    ensures { IfOk result (λ m. (⟦<MemBench as Bench>⟧.disk m).reads Dev.Target ≡ 1 ∷ 5 ∷ byte ∷ 4 ∷ []) }
+{
+    let mut bench = MemBench::new(alloc, &[1, 2, 3, 4], &[], 1000)?;
+    if bench.write_at(Dev::Target, 1, &[5, 6]).is_err() {
+        return Err(NoMemory);
+    }
+    bench.tear(Dev::Target, 2, byte);
+    bench.leave(alloc, &[true])
+}
+
 /// A bench on which the first of two writes to the target is settled.
 fn half_settled(alloc: Global) -> Result<MemBench, NoMemory> {
     let mut bench = MemBench::new(alloc, b"abcd", b"", 1000)?;
@@ -137,6 +149,11 @@ fn a_stop_leaves_what_is_kept(rt: HostRuntime) -> Result<(), Fail> {
     assert_eq!(rt;
         content(&mut torn, Dev::Target),
         Ok(*b"AX?d\xFF\xFF\xFF\xFF")
+    );
+    let mut torn = torn_write(alloc, 7)?;
+    assert_eq!(rt;
+        content(&mut torn, Dev::Target),
+        Ok([1, 5, 7, 4, 0xFF, 0xFF, 0xFF, 0xFF])
     );
     Ok(())
 }

@@ -1,6 +1,6 @@
-ghost use Rattle.std.specs.Prelude.{◌≡◌, ◌≢◌, ◌≤◌, ◌+◌, ◌↔◌, [], IsTrue, Contains, Some, None, OnOk, OnErr, false, true};
+ghost use Rattle.std.specs.Prelude.{◌≡◌, ◌≢◌, ◌<◌, ◌≤◌, ◌+◌, ◌↔◌, [], IsTrue, Contains, Some, None, OnOk, OnErr, false, true};
 ghost use Rattle.outside.specs.Counts.{Rose};
-ghost use Rattle.outside.specs.Calls.{listing, more, unused};
+ghost use Rattle.outside.specs.Calls.{listing, more, one_less, unused};
 ghost use Rattle.outside.specs.Disk.{other_of};
 ghost use Rattle.outside.specs.History.{Rested, work_of};
 ghost use Rattle.outside.specs.Meter.{of_device};
@@ -87,11 +87,13 @@ impl Gate {
         ensures other { of_device (other_of dev) self.new.faults ≡ of_device (other_of dev) self.old.faults }
         ensures no_less { work_of self.old.past log.old ≤ work_of self.new.past log.new }
         ensures work { work_of self.new.past log.new ≤ work_of self.old.past log.old + 32 + bytes }
+        ensures past { log.old.room < work_of self.old.past log.old + 32 + bytes → work_of self.new.past log.new ≡ log.old.room + 1 }
         ensures same_room { log.new.room ≡ log.old.room }
         ensures used { log.old.used ≤ log.new.used }
         ensures same_sure { self.new.sure ≡ self.old.sure }
         ensures same_failing { self.new.failures.failing ≡ self.old.failures.failing }
         ensures next { self.new.failures.next ≡ more self.old.failures.next }
+        ensures passing { self.new.passing ≡ one_less self.old.passing }
     {
         let listed = self.failures.fails();
         let stopped = stops(&mut self.passing);
@@ -110,7 +112,7 @@ impl Gate {
 /// Whether the calls that pass are used up, after one call more.
 fn stops(passing: &mut Option<u64>) -> bool
     ensures exact { IsTrue result ↔ (passing.old ≡ Some 0) }
-    ensures none { passing.old ≡ None → passing.new ≡ None }
+    ensures one_less { passing.new ≡ one_less passing.old }
 {
     match *passing {
         None => false,

@@ -29,7 +29,7 @@ pub struct MemBench {
 
 impl MemBench {
     ghost use Rattle.outside.specs.Calls.{listing, unused};
-    ghost use Rattle.outside.specs.MemBenchCalls.{IsPendingAt, calls_of, kept_of, passing_of, pending_in, story_of, untouched, uncounted};
+    ghost use Rattle.outside.specs.MemBenchCalls.{IsPendingAt, calls_of, kept_of, passing_of, pending_in, story_of, torn_story, untouched, uncounted};
 
     /// The two devices with these bytes, all of them on the disk, both attached without a name. All memory that
     /// later calls need is taken here: `room` bytes for the record of the calls and as many for their bytes, and
@@ -96,6 +96,7 @@ impl MemBench {
     #[tactic(auto, using(crate::proofs::TearLemmas::alike_reads, crate::proofs::TearLemmas::alike_names, crate::proofs::TearLemmas::alike_stays, crate::proofs::TearLemmas::alike_images))]
     pub fn tear(&mut self, dev: Dev, at: u64, byte: u8)
         requires { IsPendingAt (story_of self.old) dev at }
+        ensures torn { story_of self.new ≡ torn_story (story_of self.old) dev at byte }
         ensures reads { (each : Dev) → (⟦<MemBench as Bench>⟧.disk self.new).reads each ≡ (⟦<MemBench as Bench>⟧.disk self.old).reads each }
         ensures stays { (each : Dev) → StillLeaves each (⟦<MemBench as Bench>⟧.disk self.old) (⟦<MemBench as Bench>⟧.disk self.new) }
         ensures no_more { (each : Dev) → StillLeaves each (⟦<MemBench as Bench>⟧.disk self.new) (⟦<MemBench as Bench>⟧.disk self.old) }
@@ -147,11 +148,10 @@ impl MemBench {
 }
 
 impl Bench for MemBench {
-    ghost use Rattle.outside.specs.Calls.{more};
     ghost use Rattle.outside.specs.Counts.{Rose};
     ghost use Rattle.outside.specs.Disk.{After, Grown, Grows, IsSettled, Looked, StillLeaves, Torn, Touches, other_of};
-    ghost use Rattle.outside.specs.History.{Rested};
-    ghost use Rattle.outside.specs.MemBenchCalls.{Passes, calls_of, disk_in, meter_in, story_of};
+    ghost use Rattle.outside.specs.History.{Grows as GrowsTo, Names, Rested, Rests, Settles, Writes};
+    ghost use Rattle.outside.specs.MemBenchCalls.{Passes, TakesCall, disk_in, meter_in, story_after, story_of};
     ghost use Rattle.outside.specs.Meter.{Attaches, Bills, HasNoOther, IsAttached, SameNames, of_device};
 
     ghost told = { Unit {0} };
@@ -176,10 +176,10 @@ impl Bench for MemBench {
         ensures failed { OnErr result (Rose (of_device dev (meter_in self.old).faults) (of_device dev (meter_in self.new).faults)) }
         ensures ok { OnOk result (Attaches dev name.now (meter_in self.old) (meter_in self.new)) }
         ensures err { OnErr result (SameNames (meter_in self.old) (meter_in self.new)) }
+        ensures recorded { OnOk result (story_of self.new ≡ story_after (story_of self.old) dev (Names name.now) (32 + length name.now)) }
         ensures rested { OnErr result (Rested dev (length name.now) (story_of self.old).log (story_of self.new).log) }
         ensures passes { IsOk result ↔ Passes self.old (length name.now) }
-        ensures next { (calls_of self.new).next ≡ more (calls_of self.old).next }
-        ensures same_failing { (calls_of self.new).failing ≡ (calls_of self.old).failing }
+        ensures takes { TakesCall (length name.now) self.old self.new }
     {
         if !self.gate.passes(&mut self.log, dev, name.len()) {
             return Err(BenchErr);
@@ -193,13 +193,13 @@ impl Bench for MemBench {
         ensures exact { IfOk result (λ n. n ≡ length ((disk_in self.old).reads dev)) }
         ensures looked { Looked (disk_in self.old) (disk_in self.new) }
         ensures stays { (each : Dev) → StillLeaves each (disk_in self.old) (disk_in self.new) }
-        ensures bill { Bills dev (0) (meter_in self.old) (meter_in self.new) }
+        ensures bill { Bills dev 0 (meter_in self.old) (meter_in self.new) }
         ensures same_names { SameNames (meter_in self.old) (meter_in self.new) }
         ensures failed { OnErr result (Rose (of_device dev (meter_in self.old).faults) (of_device dev (meter_in self.new).faults)) }
-        ensures rested { OnErr result (Rested dev (0) (story_of self.old).log (story_of self.new).log) }
-        ensures passes { IsOk result ↔ Passes self.old (0) }
-        ensures next { (calls_of self.new).next ≡ more (calls_of self.old).next }
-        ensures same_failing { (calls_of self.new).failing ≡ (calls_of self.old).failing }
+        ensures recorded { OnOk result (story_of self.new ≡ story_after (story_of self.old) dev Rests 32) }
+        ensures rested { OnErr result (Rested dev 0 (story_of self.old).log (story_of self.new).log) }
+        ensures passes { IsOk result ↔ Passes self.old 0 }
+        ensures takes { TakesCall 0 self.old self.new }
     {
         if !self.gate.passes(&mut self.log, dev, 0) {
             return Err(BenchErr);
@@ -217,13 +217,13 @@ impl Bench for MemBench {
         ensures there { OnOk result (buf.new ≡ take (length buf.old) (drop at ((disk_in self.old).reads dev))) }
         ensures looked { Looked (disk_in self.old) (disk_in self.new) }
         ensures stays { (each : Dev) → StillLeaves each (disk_in self.old) (disk_in self.new) }
-        ensures bill { Bills dev (0) (meter_in self.old) (meter_in self.new) }
+        ensures bill { Bills dev 0 (meter_in self.old) (meter_in self.new) }
         ensures same_names { SameNames (meter_in self.old) (meter_in self.new) }
         ensures failed { OnErr result (Rose (of_device dev (meter_in self.old).faults) (of_device dev (meter_in self.new).faults)) }
-        ensures rested { OnErr result (Rested dev (0) (story_of self.old).log (story_of self.new).log) }
-        ensures passes { IsOk result ↔ Passes self.old (0) }
-        ensures next { (calls_of self.new).next ≡ more (calls_of self.old).next }
-        ensures same_failing { (calls_of self.new).failing ≡ (calls_of self.old).failing }
+        ensures recorded { OnOk result (story_of self.new ≡ story_after (story_of self.old) dev Rests 32) }
+        ensures rested { OnErr result (Rested dev 0 (story_of self.old).log (story_of self.new).log) }
+        ensures passes { IsOk result ↔ Passes self.old 0 }
+        ensures takes { TakesCall 0 self.old self.new }
     {
         if !self.gate.passes(&mut self.log, dev, 0) {
             return Err(BenchErr);
@@ -245,10 +245,10 @@ impl Bench for MemBench {
         ensures bill { Bills dev (length bytes.now) (meter_in self.old) (meter_in self.new) }
         ensures same_names { SameNames (meter_in self.old) (meter_in self.new) }
         ensures failed { OnErr result (Rose (of_device dev (meter_in self.old).faults) (of_device dev (meter_in self.new).faults)) }
+        ensures recorded { OnOk result (story_of self.new ≡ story_after (story_of self.old) dev (Writes at bytes.now bytes.now) (32 + length bytes.now)) }
         ensures rested { OnErr result (Rested dev (length bytes.now) (story_of self.old).log (story_of self.new).log) }
         ensures passes { IsOk result ↔ Passes self.old (length bytes.now) }
-        ensures next { (calls_of self.new).next ≡ more (calls_of self.old).next }
-        ensures same_failing { (calls_of self.new).failing ≡ (calls_of self.old).failing }
+        ensures takes { TakesCall (length bytes.now) self.old self.new }
     {
         if !self.gate.passes(&mut self.log, dev, bytes.len()) {
             return Err(BenchErr);
@@ -267,10 +267,10 @@ impl Bench for MemBench {
         ensures bill { Bills Dev.Journal (len - length ((disk_in self.old).reads Dev.Journal)) (meter_in self.old) (meter_in self.new) }
         ensures same_names { SameNames (meter_in self.old) (meter_in self.new) }
         ensures failed { OnErr result (Rose (of_device Dev.Journal (meter_in self.old).faults) (of_device Dev.Journal (meter_in self.new).faults)) }
+        ensures recorded { OnOk result (story_of self.new ≡ story_after (story_of self.old) Dev.Journal (GrowsTo len) (32 + (len - length ((disk_in self.old).reads Dev.Journal)))) }
         ensures rested { OnErr result (Rested Dev.Journal (len - length ((disk_in self.old).reads Dev.Journal)) (story_of self.old).log (story_of self.new).log) }
         ensures passes { IsOk result ↔ Passes self.old (len - length ((disk_in self.old).reads Dev.Journal)) }
-        ensures next { (calls_of self.new).next ≡ more (calls_of self.old).next }
-        ensures same_failing { (calls_of self.new).failing ≡ (calls_of self.old).failing }
+        ensures takes { TakesCall (len - length ((disk_in self.old).reads Dev.Journal)) self.old self.new }
     {
         let more = len as usize - self.journal.len();
         if !self.gate.passes(&mut self.log, Dev::Journal, more) {
@@ -287,13 +287,13 @@ impl Bench for MemBench {
         ensures looked { Looked (disk_in self.old) (disk_in self.new) }
         ensures other_stays { StillLeaves (other_of dev) (disk_in self.old) (disk_in self.new) }
         ensures pending { OnErr result (StillLeaves dev (disk_in self.old) (disk_in self.new)) }
-        ensures bill { Bills dev (0) (meter_in self.old) (meter_in self.new) }
+        ensures bill { Bills dev 0 (meter_in self.old) (meter_in self.new) }
         ensures same_names { SameNames (meter_in self.old) (meter_in self.new) }
         ensures failed { OnErr result (Rose (of_device dev (meter_in self.old).faults) (of_device dev (meter_in self.new).faults)) }
-        ensures rested { OnErr result (Rested dev (0) (story_of self.old).log (story_of self.new).log) }
-        ensures passes { IsOk result ↔ Passes self.old (0) }
-        ensures next { (calls_of self.new).next ≡ more (calls_of self.old).next }
-        ensures same_failing { (calls_of self.new).failing ≡ (calls_of self.old).failing }
+        ensures recorded { OnOk result (story_of self.new ≡ story_after (story_of self.old) dev Settles 32) }
+        ensures rested { OnErr result (Rested dev 0 (story_of self.old).log (story_of self.new).log) }
+        ensures passes { IsOk result ↔ Passes self.old 0 }
+        ensures takes { TakesCall 0 self.old self.new }
     {
         if !self.gate.passes(&mut self.log, dev, 0) {
             return Err(BenchErr);

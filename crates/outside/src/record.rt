@@ -1,9 +1,9 @@
-ghost use Rattle.std.specs.Prelude.{◌≡◌, ℕ, if◌then◌else◌, List, OnOk, ◌&&◌, false, nat_le, slice_index_or, ◌+◌, ◌<◌, ◌≤◌, ◌↔◌, IsTrue, ◌++◌, ◌∷◌, [], All, IfOk, IfSome, length, vec_len, vec_capacity};
+ghost use Rattle.std.specs.Prelude.{◌≡◌, ℕ, if◌then◌else◌, List, OnOk, ◌&&◌, false, nat_le, slice_index_or, ◌+◌, ◌<◌, ◌≤◌, ◌↔◌, IsTrue, ◌++◌, ◌∷◌, [], All, AllPairs, IfOk, IfSome, length, vec_len, vec_capacity};
 ghost use Rattle.base_fields.specs.Fields.{written};
 ghost use Rattle.outside.specs.Disk.{part_of};
 ghost use Rattle.outside.specs.History.{Effect, ReadsAlike, Rests, effect_on, lengthened, logged, over, read_after};
-ghost use Rattle.outside.specs.Leaving.{changes, grown_to, image_after, settled_from, wrote_at};
-ghost use Rattle.outside.specs.Record.{IsWithin, call_of, effect_of};
+ghost use Rattle.outside.specs.Leaving.{changes, grown_to, image_after, settled_from, torn_calls, wrote_at};
+ghost use Rattle.outside.specs.Record.{IsWithin, StandsBefore, call_of, calls_of, effect_of, put_at};
 
 use crate::Dev;
 use base_fields::NoMemory;
@@ -89,7 +89,7 @@ impl Record {
         self.room
     }
 
-    #[tactic(auto, using(crate::proofs::RecordLemmas::calls_more))]
+    #[tactic(auto, using(crate::proofs::RecordLemmas::calls_more, crate::proofs::RecordLemmas::apart_more))]
     /// Records a call with its bytes, and so many more that it uses.
     pub fn push(&mut self, dev: Dev, kind: Kind, at: u64, bytes: &[u8], more: usize)
         requires { self.old.used + 32 + length bytes.now + more ≤ self.old.room }
@@ -172,7 +172,7 @@ impl Record {
         let mut any = false;
         for k in 0..self.entries.len() {
             let entry = self.entries[k];
-            if is_pending(entry, k, choice) && wrote_at(entry, &self.bytes, dev, at) {
+            if covers(entry, &self.bytes, k, choice, dev, at) {
                 any = true;
             }
         }
@@ -182,12 +182,12 @@ impl Record {
     /// Puts a byte into the last pending write that covers a place of a device, as a stop finds it.
     #[tactic(auto, using(crate::proofs::TearLemmas::found_alike))]
     pub fn tear(&mut self, dev: Dev, at: u64, byte: u8, choice: Choice)
-        ensures { ReadsAlike self.old self.new }
+        ensures alike { ReadsAlike self.old self.new }
+        ensures torn { self.new ≡ record self.old { calls = torn_calls (record { target = choice.target; journal = choice.journal }) dev at byte self.old.calls } }
     {
-        let size = self.found.len();
-        match place_of(&self.entries, size, dev, at, choice) {
+        match place_of(&self.entries, &self.bytes, dev, at, choice) {
             None => {}
-            Some(i) => self.found[i] = byte,
+            Some(place) => self.found[place] = byte,
         }
     }
 
@@ -276,23 +276,36 @@ fn grown_to(entry: Entry, kept: bool, most: u64) -> u64
 }
 
 /// Where the byte at a place of a device stands among those of all calls, in the last pending write that covers it.
-fn place_of(entries: &[Entry], size: usize, dev: Dev, at: u64, choice: Choice) -> Option<usize>
-    requires { All (IsWithin size) entries.now }
-    ensures { IfSome result (λ i. i < size) }
+fn place_of(entries: &[Entry], bytes: &[u8], dev: Dev, at: u64, choice: Choice) -> Option<usize>
+    requires within { All (IsWithin (length bytes.now)) entries.now }
+    requires apart { AllPairs StandsBefore entries.now }
+    ensures inside { IfSome result (λ place. place < length bytes.now) }
+    ensures torn { (found : List ℕ) (byte : ℕ) → length found ≡ length bytes.now → calls_of bytes.now (put_at result byte found) entries.now ≡ torn_calls (record { target = choice.target; journal = choice.journal }) dev at byte (calls_of bytes.now found entries.now) }
 {
-    for k in (0..entries.len()).rev() {
+    let mut place = None;
+    for k in 0..entries.len() {
         let entry = entries[k];
-        if is_pending(entry, k, choice) && covers(entry, dev, at) {
-            return Some(entry.from + (at - entry.at) as usize);
+        if covers(entry, bytes, k, choice, dev, at) {
+            place = Some(entry.from + (at - entry.at) as usize);
         }
     }
-    None
+    place
+}
+
+/// Whether the call behind so many is pending, and wrote at a place of a device.
+fn covers(entry: Entry, bytes: &[u8], k: usize, choice: Choice, dev: Dev, at: u64) -> bool
+    requires { IsWithin (length bytes.now) entry }
+    ensures exact { (found : List ℕ) → result ≡ ((changes (call_of bytes.now found entry).effect && nat_le (part_of entry.dev choice.target choice.journal) k) && wrote_at (effect_on entry.dev dev (call_of bytes.now found entry).effect) at) }
+    ensures inside { IsTrue result → (entry.at ≤ at) × (at < entry.at + entry.len) }
+{
+    is_pending(entry, k, choice) && wrote_at(entry, bytes, dev, at)
 }
 
 /// Whether a call wrote at a place of a device.
 fn wrote_at(entry: Entry, bytes: &[u8], dev: Dev, at: u64) -> bool
     requires { IsWithin (length bytes.now) entry }
-    ensures { (found : List ℕ) → result ≡ wrote_at (effect_on entry.dev dev (call_of bytes.now found entry).effect) at }
+    ensures exact { (found : List ℕ) → result ≡ wrote_at (effect_on entry.dev dev (call_of bytes.now found entry).effect) at }
+    ensures inside { IsTrue result → (entry.at ≤ at) × (at < entry.at + entry.len) }
 {
     if !is_on(entry, dev) {
         return false;
@@ -304,16 +317,6 @@ fn wrote_at(entry: Entry, bytes: &[u8], dev: Dev, at: u64) -> bool
         Kind::Attached => false,
         Kind::Rested => false,
     }
-}
-
-/// Whether a call wrote at a place of a device, and where.
-fn covers(entry: Entry, dev: Dev, at: u64) -> bool
-    ensures { IsTrue result → (entry.at ≤ at) × (at < entry.at + entry.len) }
-{
-    entry.kind == Kind::Wrote
-        && is_on(entry, dev)
-        && entry.at <= at
-        && at - entry.at < entry.len as u64
 }
 
 /// Whether a call is on a device.

@@ -1,2 +1,5 @@
 pub mod Leases
+pub mod Pieces
+pub mod Rows
+pub mod Sharing
 pub mod Slots

@@ -1,7 +1,6 @@
 -- What a clause sees of a pool of equal buffers and of a lease of one, and what each call makes of the pool.
 use Rattle.std.specs.Prelude.{◌≡◌, ◌<◌, ℕ, Bool, true, false, not, List, [], length, get_or, slice_set, replicate, count_by}
 use Rattle.std.specs.List.{refill}
-use Rattle.bytes.specs.Filled.{Filled}
 
 -- a pool: its tag, the bytes of one buffer, what each slot's buffer holds, and which slots are out
 pub record Buffers : Type 0 where
@@ -48,7 +47,3 @@ given p slot = record p { out = slice_set p.out slot false }
 -- the pool with these bytes in that slot's buffer, whose length stays, and all else as it was
 abbrev pub with_bytes : Buffers → ℕ → List ℕ → Buffers
 with_bytes p slot bytes = record p { slots = slice_set p.slots slot (refill p.size (bytes_at p slot) bytes) }
-
--- the bytes of one buffer
-abbrev pub contents : Filled → List ℕ
-contents buffer = buffer.items

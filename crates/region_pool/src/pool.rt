@@ -1,9 +1,9 @@
 ghost use Rattle.std.specs.Prelude.{◌≡◌, ℕ, ◌+◌, ◌*◌, ◌^◌, ◌<◌, ◌≤◌, ◌↔◌, length, IfOk, IfSome, IfNone, IsNone, slice_set, position, not, false, map, replicate};
 ghost use Rattle.std.specs.Borrow.{sem};
-ghost use Rattle.region_pool.specs.Buffers.{contents, bytes_at, IsFree, free_of, IsLeaseOf, new_pool, taken, given};
+ghost use Rattle.region_pool.specs.Buffers.{bytes_at, IsFree, free_of, IsLeaseOf, new_pool, taken, given};
 
+use crate::block::Block;
 use base_fields::NoMemory;
-use bytes::BytesMut;
 use std::alloc::Global;
 use std::marker::Model;
 
@@ -30,19 +30,21 @@ impl Model for Lease {
 pub struct Pool {
     tag: u32,
     size: u32,
-    buffers: Vec<BytesMut>,
+    count: u32,
+    block: Block,
     out: [bool; MOST],
 }
 
 impl Model for Pool {
-    ghost use Rattle.std.specs.Prelude.{◌≡◌, ◌≤◌, All, length, take, map};
-    ghost use Rattle.region_pool.specs.Buffers.{Buffers, contents};
+    ghost use Rattle.std.specs.Prelude.{◌≡◌, ◌≤◌, ◌*◌, length, take};
+    ghost use Rattle.region_pool.specs.Blocks.{pieces};
+    ghost use Rattle.region_pool.specs.Buffers.{Buffers};
 
     ghost Value = { Buffers };
 
-    ghost view = { λ p. record { tag = p.tag; size = p.size; slots = map contents p.buffers.items; out = take p.buffers.len p.out } };
+    ghost view = { λ p. record { tag = p.tag; size = p.size; slots = pieces p.size p.count p.block; out = take p.count p.out } };
 
-    ghost invariant = { λ p. (p.buffers.len ≤ 64) × All (λ b. length b.items ≡ p.size) p.buffers.items };
+    ghost invariant = { λ p. (p.count ≤ 64) × (length p.block ≡ p.count * p.size) };
 }
 
 impl Pool {
@@ -54,12 +56,12 @@ impl Pool {
         requires room { (16384 ≤ bytes) × (bytes ≤ 4194304) }
         ensures ok { IfOk result (λ p. p ≡ new_pool tag count bytes) }
     {
-        let block = BytesMut::zeroed(alloc, block_len(count, bytes))?;
-        let buffers = cut(alloc, block, count, bytes)?;
+        let block = Block::zeroed(alloc, block_len(count, bytes))?;
         Ok(Pool {
             tag,
             size: bytes,
-            buffers,
+            count,
+            block,
             out: none_out(),
         })
     }
@@ -74,7 +76,7 @@ impl Pool {
         ensures back { IfSome result (λ l. given self.new l.slot ≡ self.old) }
         ensures fewer { IfSome result (λ _. free_of self.new + 1 ≡ free_of self.old) }
     {
-        let Some(slot) = first_free(&self.out[..self.buffers.len()]) else {
+        let Some(slot) = first_free(&self.out[..self.count as usize]) else {
             return None;
         };
         self.out[slot] = true;
@@ -90,7 +92,8 @@ impl Pool {
         ensures len { length result.now ≡ self.now.size }
         ensures value { result.now ≡ bytes_at self.now lease.now.slot }
     {
-        self.buffers[lease.slot as usize].as_slice()
+        let (at, len) = place(lease.slot, self.size);
+        self.block.slice(at, len)
     }
 
     /// The bytes of the leased buffer, to be written in place.
@@ -100,7 +103,8 @@ impl Pool {
         ensures len { length result.now ≡ self.old.size }
         ensures value { result.now ≡ bytes_at self.old lease.now.slot }
     {
-        self.buffers[lease.slot as usize].as_mut_slice()
+        let (at, len) = place(lease.slot, self.size);
+        self.block.slice_mut(at, len)
     }
 
     /// Puts the leased buffer back. Its bytes stay until they are written.
@@ -117,7 +121,7 @@ impl Pool {
     pub fn free(&self) -> u32
         ensures { result ≡ free_of self.now }
     {
-        let slots = &self.out[..self.buffers.len()];
+        let slots = &self.out[..self.count as usize];
         slots.iter().filter(|is_out| !**is_out).count() as u32
     }
 
@@ -151,16 +155,10 @@ fn block_len(count: u32, size: u32) -> usize
     count as usize * size as usize
 }
 
-/// Cuts a block of zeros into equal buffers, with no copy.
-fn cut(alloc: Global, block: BytesMut, count: u32, size: u32) -> Result<Vec<BytesMut>, NoMemory>
-    requires { block.items ≡ replicate (count * size) 0 }
-    ensures { IfOk result (λ buffers. map contents buffers.items ≡ replicate count (replicate size 0)) }
+/// Where in the block the buffer of a slot begins, and its length.
+fn place(slot: u32, size: u32) -> (usize, usize)
+    ensures { (result.0 ≡ slot * size) × (result.1 ≡ size) }
 {
-    let mut rest = block;
-    let mut buffers = Vec::with_capacity(alloc, count as usize)?;
-    for _ in 0..count {
-        let buffer = rest.split_to(size as usize)?;
-        buffers.push(buffer)?;
-    }
-    Ok(buffers)
+    let len = size as usize;
+    (slot as usize * len, len)
 }

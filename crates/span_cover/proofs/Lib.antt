@@ -2,6 +2,7 @@
 mod Editing
 mod Replacing
 mod Searching
+mod Slow
 mod Spans
 mod Touching
 mod Unique

@@ -1,3 +1,6 @@
+ghost use Rattle.std.specs.Prelude.{◌≡◌, ℕ, ◌+◌, ◌<◌, ◌≤◌, ◌≢◌, ◌↔◌, All, IsTrue, IfOk, OnOk};
+ghost use Rattle.span_cover.specs.Cover.{covers, has, AreApart, HasMore, HasLess, Meets, IsTouched, AreTouchedRuns};
+
 use super::*;
 use base_fields::Span;
 use std::alloc::{AllocError, Global};
@@ -37,70 +40,118 @@ fn cover_of_two_spans(rt: HostRuntime) -> Result<(), Fail> {
     Ok(())
 }
 
-// The set as one flag for each offset.
-fn mark(flags: &mut [bool], span: Span, flag: bool) {
-    for (o, f) in flags.iter_mut().enumerate() {
-        let o = o as u64;
-        if span.at <= o && o - span.at < span.len {
-            *f = flag;
-        }
-    }
+// Beside each call of a cover stands a slow program over any list of spans, whose contract is the definition.
+// Their sets end at 16 here.
+
+fn slow_has(spans: &[Span], o: u64) -> bool
+    ensures { result ≡ covers spans.now o }
+{
+    spans
+        .iter()
+        .any(|span| span.at <= o && o - span.at < span.len)
 }
 
-fn is_touched(flags: &[bool], size: u64, block: u32, b: u64) -> bool {
-    let mut touched = false;
-    for (o, f) in flags.iter().enumerate() {
-        let o = o as u64;
-        if block != 0 && o < size && *f && o / u64::from(block) == b {
-            touched = true;
-        }
-    }
-    touched
+fn slow_add(spans: &mut Vec<Span>, span: Span) -> Result<(), AllocError>
+    requires small { All (λ s. s.at + s.len ≤ 16) spans.old.items × (span.at + span.len ≤ 16) }
+    ensures ok { OnOk result (HasMore spans.old.items span spans.new.items) }
+    ensures small { OnOk result (All (λ s. s.at + s.len ≤ 16) spans.new.items) }
+{
+    spans.push(span)?;
+    Ok(())
 }
 
-// The spans or, where a block is larger than an offset, the runs, one offset after the other.
-fn slow_runs(
-    alloc: Global,
-    flags: &[bool],
-    size: u64,
-    block: u32,
-) -> Result<Vec<Span>, AllocError> {
-    let mut runs: Vec<Span> = Vec::new(alloc);
+fn slow_take_out(alloc: Global, spans: &[Span], span: Span) -> Result<Vec<Span>, AllocError>
+    requires small { All (λ s. s.at + s.len ≤ 16) spans.now }
+    ensures ok { IfOk result (λ left. HasLess spans.now span left.items) }
+    ensures small { IfOk result (λ left. All (λ s. s.at + s.len ≤ 16) left.items) }
+{
+    let mut left = Vec::new(alloc);
+    for o in 0..16 {
+        if slow_has(spans, o) && !slow_has(&[span], o) {
+            left.push(Span { at: o, len: 1 })?;
+        }
+    }
+    Ok(left)
+}
+
+fn slow_meets(spans: &[Span], span: Span) -> bool
+    requires { span.at + span.len ≤ 16 }
+    ensures { IsTrue result ↔ Meets spans.now span }
+{
+    for o in span.at..span.at + span.len {
+        if slow_has(spans, o) {
+            return true;
+        }
+    }
+    false
+}
+
+fn is_touched(spans: &[Span], size: u64, block: u32, b: u64) -> bool
+    requires { block ≢ 0 }
+    ensures { IsTrue result ↔ IsTouched spans.now size block b }
+{
+    for o in 0..size {
+        if slow_has(spans, o) && o / u64::from(block) == b {
+            return true;
+        }
+    }
+    false
+}
+
+fn slow_runs(alloc: Global, spans: &[Span], size: u64, block: u32) -> Result<Vec<Span>, AllocError>
+    requires { block ≢ 0 }
+    ensures { IfOk result (λ runs. AreTouchedRuns spans.now size block runs.items) }
+{
+    let mut runs = Vec::new(alloc);
     let mut run = Span { at: 0, len: 0 };
-    for b in 0..20 {
-        if is_touched(flags, size, block, b) {
-            if run.len == 0 {
-                run.at = b;
-            }
-            run.len = run.len.saturating_add(1);
-        } else if run.len != 0 {
-            runs.push(run)?;
-            run.len = 0;
+    for b in 0..size {
+        if is_touched(spans, size, block, b) {
+            run.len += 1;
+        } else {
+            close(&mut runs, run)?;
+            run = Span { at: b + 1, len: 0 };
         }
     }
+    close(&mut runs, run)?;
     Ok(runs)
 }
 
-fn agree(rt: &impl Abort, alloc: Global, cover: &Cover, flags: &[bool]) -> Result<(), Fail> {
-    let spans = slow_runs(alloc, flags, 20, 1)?;
-    assert_eq!(rt; cover.spans(), spans.as_slice());
-    for (o, flag) in flags.iter().enumerate() {
-        let at = o as u64;
-        assert!(rt; at < 16);
-        assert_eq!(rt; cover.meets(Span { at, len: 1 }), *flag);
+// Appends a run, unless it is empty.
+fn close(runs: &mut Vec<Span>, run: Span) -> Result<(), AllocError>
+    requires apart { AreApart runs.old.items }
+    requires behind { All (λ r. r.at + r.len < run.at) runs.old.items }
+    ensures apart { OnOk result (AreApart runs.new.items) }
+    ensures within { OnOk result (All (λ r. r.at + r.len ≤ run.at + run.len) runs.new.items) }
+    ensures ok { OnOk result (HasMore runs.old.items run runs.new.items) }
+{
+    if run.len != 0 {
+        runs.push(run)?;
     }
-    for block in 1..5 {
-        for size in 0..17 {
-            let runs = cover.runs(alloc, size, block)?;
-            let slow = slow_runs(alloc, flags, size, block)?;
-            assert_eq!(rt; runs.as_slice(), slow.as_slice());
-        }
+    Ok(())
+}
+
+// Each call that answers, at each span and each size of a block up to 4.
+fn agrees(rt: &impl Abort, alloc: Global, cover: &Cover, spans: &[Span]) -> Result<(), Fail> {
+    assert_eq!(rt; cover.spans(), slow_runs(alloc, spans, 16, 1)?.as_slice());
+    for i in 0..17 * 17 {
+        let (at, len) = (i % 17, i / 17);
+        let span = Span {
+            at,
+            len: len.min(16 - at),
+        };
+        assert_eq!(rt; cover.meets(span), slow_meets(spans, span));
+    }
+    for i in 0..17 * 4 {
+        let (size, block) = (i / 4, i % 4 + 1);
+        let runs = cover.runs(alloc, u64::from(size), block)?;
+        let slow = slow_runs(alloc, spans, u64::from(size), block)?;
+        assert_eq!(rt; runs.as_slice(), slow.as_slice());
     }
     Ok(())
 }
 
 #[test]
-fn covers_are_sets(rt: HostRuntime) -> Result<(), Fail> {
+fn fast_calls_answer_as_slow_ones(rt: HostRuntime) -> Result<(), Fail> {
     // whether it is added, its place and its length
     let steps = [
         (true, 3, 4),
@@ -123,17 +174,18 @@ fn covers_are_sets(rt: HostRuntime) -> Result<(), Fail> {
         (true, 6, 1),
     ];
     let mut cover = Cover::new(rt.alloc());
-    let mut flags = [false; 16];
+    let mut spans = Vec::new(rt.alloc());
     for (is_added, at, len) in steps {
+        assert!(rt; at <= 16 && len <= 16 - at);
         let span = Span { at, len };
-        assert!(rt; at <= 16 && len <= 16);
         if is_added {
             cover.add(span)?;
+            slow_add(&mut spans, span)?;
         } else {
             cover.take_out(span)?;
+            spans = slow_take_out(rt.alloc(), &spans, span)?;
         }
-        mark(&mut flags, span, is_added);
-        agree(&rt, rt.alloc(), &cover, &flags)?;
+        agrees(&rt, rt.alloc(), &cover, &spans)?;
     }
     Ok(())
 }

@@ -1,8 +1,8 @@
-ghost use Rattle.std.specs.Prelude.{◌≡◌, IfOk, length};
+ghost use Rattle.std.specs.Prelude.{◌≤◌};
 
-use base_fields::List;
-use gpt_table::{GptEntry, GptSpec, gpt};
-use mbr_table::{MbrEntry, MbrSpec, mbr_bytes};
+use base_fields::{List, get_u64};
+use gpt_table::{Flags, GptEntry, GptSpec, gpt};
+use mbr_table::{MbrEntry, MbrSpec, mbr_bytes, protective_entry};
 use std::alloc::{AllocError, Global};
 use std::fs;
 use std::test::Fail;
@@ -12,43 +12,50 @@ const LINUX: [u8; 16] = [
     0x0F, 0xC6, 0x3D, 0xAF, 0x84, 0x83, 0x47, 0x72, 0x8E, 0x79, 0x3D, 0x69, 0xD8, 0x47, 0x7D, 0xE4,
 ];
 
-fn zeros(alloc: Global, len: usize) -> Result<Vec<u8>, AllocError>
-    ensures { IfOk result (λ v. length v.items ≡ len) }
-{
-    vec![in alloc; 0; len]
-}
-
-// The partition `p` from sector 2,048 to 4,095.
-fn partition() -> GptEntry {
+/// The partition `p` of these sectors.
+fn partition(first: u64, last: u64) -> GptEntry {
     let mut name = [0; 36];
     name[0] = u16::from(b'p');
+    let flags = Flags {
+        bootable: true,
+        read_only: false,
+        hidden: false,
+        no_automount: true,
+    };
     GptEntry {
         kind: LINUX,
         own: [7; 16],
-        first: 2048,
-        last: 4095,
-        attrs: 0,
+        first,
+        last,
+        attrs: flags.attributes(),
         name,
     }
 }
 
-// A disk of 4,129 sectors of 512 bytes.
+/// The master boot record that protects the table of a disk of so many sectors.
+fn record(sectors: u64) -> [u8; 72]
+    requires { 2 ≤ sectors }
+{
+    let none = MbrEntry::EMPTY;
+    mbr_bytes(&MbrSpec {
+        signature: 0,
+        entries: [protective_entry(sectors), none, none, none],
+    })
+}
+
+/// Puts bytes at a place behind what stands in the image, with zeros between.
+fn put(alloc: Global, image: &mut Vec<u8>, at: usize, bytes: &[u8]) -> Result<(), AllocError> {
+    let zeros = vec![in alloc; 0u8; at.saturating_sub(image.len())]?;
+    image.extend_from_slice(&zeros)?;
+    image.extend_from_slice(bytes)
+}
+
+// A file of 1,048,576 bytes at byte 1,048,576, in 4,129 sectors of 512 bytes.
 #[test]
 fn one_gpt_partition(rt: HostRuntime) -> Result<(), Fail> {
     let alloc = rt.alloc();
-    let none = MbrEntry::EMPTY;
-    let protective = MbrEntry {
-        active: false,
-        kind: 0xEE,
-        first: 1,
-        count: 4128,
-    };
-    let record = mbr_bytes(&MbrSpec {
-        signature: 0,
-        entries: [protective, none, none, none],
-    });
     let mut entries = List::new(alloc);
-    entries.push(partition())?;
+    entries.push(partition(2048, 4095))?;
     let spec = GptSpec {
         disk: [9; 16],
         sectors: 4129,
@@ -57,18 +64,62 @@ fn one_gpt_partition(rt: HostRuntime) -> Result<(), Fail> {
         entries,
         sector: 512,
     };
-    let mut room = zeros(alloc, 16_384)?;
-    let slots = room.as_mut_slice();
-    let heads = gpt(&spec, slots);
-    let mut image = zeros(alloc, 440)?;
-    image.extend_from_slice(&record)?;
-    image.extend_from_slice(&heads.front)?;
-    image.extend_from_slice(slots)?;
-    image.extend_from_slice(&zeros(alloc, 4096 * 512 - 17_408)?)?;
-    image.extend_from_slice(slots)?;
-    image.extend_from_slice(&heads.back)?;
+    let mut slots = [0; 16_384];
+    let heads = gpt(&spec, &mut slots);
+    let mut image = Vec::new(alloc);
+    put(alloc, &mut image, 440, &record(4129))?;
+    put(alloc, &mut image, 512, &heads.front)?;
+    put(alloc, &mut image, 1024, &slots)?;
+    put(alloc, &mut image, 4096 * 512, &slots)?;
+    put(alloc, &mut image, 4128 * 512, &heads.back)?;
     assert_eq!(rt; image.len(), 2_114_048);
-    fs::create_dir_all(&rt, "/tmp/genflash-tables")?;
-    fs::write(&rt, "/tmp/genflash-tables/gpt.img", &image)?;
+    let protective = [
+        0, 0, 2, 0, 0xEE, 0x41, 0x22, 0, 1, 0, 0, 0, 0x20, 0x10, 0, 0,
+    ];
+    assert_eq!(rt; &image[446..462], protective.as_slice());
+    assert_eq!(rt; get_u64(&image, 512 + 40), 34);
+    assert_eq!(rt; get_u64(&image, 512 + 48), 4095);
+    assert_eq!(rt; get_u64(&image, 1024 + 32), 2048);
+    assert_eq!(rt; get_u64(&image, 1024 + 40), 4095);
+    assert_eq!(rt; get_u64(&image, 4128 * 512 + 24), 4128);
+    assert_eq!(rt; get_u64(&image, 4128 * 512 + 72), 4096);
+    // For other tools to look at, unless another user's folder stands there.
+    let _ = fs::create_dir_all(&rt, "/tmp/genflash-tables");
+    let _ = fs::write(&rt, "/tmp/genflash-tables/gpt.img", &image);
+    Ok(())
+}
+
+// The same in 517 sectors of 4,096 bytes.
+#[test]
+fn one_gpt_partition_in_larger_sectors(rt: HostRuntime) -> Result<(), Fail> {
+    let alloc = rt.alloc();
+    let mut entries = List::new(alloc);
+    entries.push(partition(256, 511))?;
+    let spec = GptSpec {
+        disk: [9; 16],
+        sectors: 517,
+        entries_at: 2,
+        backup: true,
+        entries,
+        sector: 4096,
+    };
+    let mut slots = [0; 16_384];
+    let heads = gpt(&spec, &mut slots);
+    let mut image = Vec::new(alloc);
+    put(alloc, &mut image, 440, &record(517))?;
+    put(alloc, &mut image, 4096, &heads.front)?;
+    put(alloc, &mut image, 8192, &slots)?;
+    put(alloc, &mut image, 512 * 4096, &slots)?;
+    put(alloc, &mut image, 516 * 4096, &heads.back)?;
+    put(alloc, &mut image, 517 * 4096, &[])?;
+    assert_eq!(rt; image.len(), 2_117_632);
+    let protective = [0, 0, 2, 0, 0xEE, 8, 0x0D, 0, 1, 0, 0, 0, 4, 2, 0, 0];
+    assert_eq!(rt; &image[446..462], protective.as_slice());
+    assert_eq!(rt; get_u64(&image, 4096 + 40), 6);
+    assert_eq!(rt; get_u64(&image, 4096 + 48), 511);
+    assert_eq!(rt; get_u64(&image, 8192 + 32), 256);
+    assert_eq!(rt; get_u64(&image, 8192 + 40), 511);
+    assert_eq!(rt; get_u64(&image, 516 * 4096 + 24), 516);
+    assert_eq!(rt; get_u64(&image, 516 * 4096 + 72), 512);
     Ok(())
 }

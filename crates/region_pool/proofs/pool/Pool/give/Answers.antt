@@ -7,6 +7,6 @@ returns-clause-back c = rw (← c.self.view_is, ← c.lease.view_is) (simp take-
 
 pub returns-clause-more : goal.returns-clause-more
 returns-clause-more c =
-    let held : get_or (take c.self.inside.buffers.len c.self.inside.out) c.lease.inside.slot false ≡ true =
+    let held : get_or (take c.self.inside.count c.self.inside.out) c.lease.inside.slot false ≡ true =
     (λ i. get_or (c.self.view_is i).out (c.lease.view_is i).slot false) ∙ c.requires.out in
-    rw (← c.self.view_is) (free_given c.self.inside.buffers.len c.lease.inside.slot c.self.inside.out held)
+    rw (← c.self.view_is) (free_given c.self.inside.count c.lease.inside.slot c.self.inside.out held)

@@ -1,19 +1,16 @@
-use Rattle.std.proofs.Common.{◌≡◌, ◌∙◌, ℕ, List, Bool, arith, replicate, take, false}
+use Rattle.std.proofs.Common.{◌≡◌, ◌∙◌, List, ℕ, Bool, arith, replicate, take, false}
 use Rattle.std.proofs.lemmas.List.{take-replicate}
+use Rattle.region_pool.specs.Blocks.{pieces}
 use Rattle.region_pool.specs.Buffers.{Buffers}
-use Rattle.region_pool.proofs.Slots.{new_long, new_many}
+use Rattle.region_pool.proofs.Pieces.{zero_pieces}
 use Rattle.region_pool.proofs.pool.Pool.new.Goals as goal
-
-pub invariant_of-result : goal.invariant_of-result
-invariant_of-result c =
-    let v = c.in_ok-buffers.buffers in
-    (omega (arith, new_many c.args.count c.args.bytes v.items c.in_ok-buffers.ensures, v.ok.0), new_long c.args.count c.args.bytes v.items c.in_ok-buffers.ensures)
 
 pub returns : goal.returns
 returns c =
-    let v = c.in_ok-buffers.buffers in
-    let many : v.len ≡ c.args.count = v.ok.0 ∙ new_many c.args.count c.args.bytes v.items c.in_ok-buffers.ensures in
-    let marks : take v.len c.none_out.result ≡ replicate c.args.count false =
-    (λ i. take (many i) (c.none_out.ensures i)) ∙ take-replicate c.args.count 64 false (omega arith) in
-    let seen : List (List ℕ) → List Bool → Buffers = λ slots out. record { tag = c.args.tag; size = c.args.bytes; slots = slots; out = out } in
-    record { ok = λ i. seen (c.in_ok-buffers.ensures i) (marks i) }
+    let count = c.args.count in let bytes = c.args.bytes in
+    let slots : pieces bytes count c.in_ok-block.block ≡ replicate count (replicate bytes 0) =
+    (λ i. pieces bytes count (c.in_ok-block.ensures i)) ∙ (λ i. pieces bytes count (replicate (c.block_len.ensures i) 0)) ∙ zero_pieces bytes count in
+    let marks : take count c.none_out.result ≡ replicate count false =
+    (λ i. take count (c.none_out.ensures i)) ∙ take-replicate count 64 false (omega arith) in
+    let seen : List (List ℕ) → List Bool → Buffers = λ slots out. record { tag = c.args.tag; size = bytes; slots = slots; out = out } in
+    record { ok = λ i. seen (slots i) (marks i) }

@@ -1,0 +1,120 @@
+//! One text: its tokens one after another, up to its end or a text that is included.
+ghost use Rattle.std.specs.Prelude.{◌≡◌, ℕ, ◌+◌, ◌≤◌, IfErr, IfOk, IsTrue, List, Result, Some, slice_get, All, length};
+ghost use Rattle.conf_items.specs.Outline.{deeper_of};
+ghost use Rattle.conf_lexer.specs.Standing.{StandsIn};
+ghost use Rattle.conf_walk.specs.Stack.{Goes, IsNoFileFault, IsOpen, Leads, Stops, begun, goes_on, left_of, left_then, rest_walked};
+
+use crate::steps::{Taken, step, take};
+use crate::texts::{Reading, Text, bad_text};
+use crate::{Vars, WalkFault};
+use conf_items::{Move, Parser, Word};
+use conf_lexer::Token;
+use std::alloc::Global;
+
+/// A text that is walked.
+#[derive(Debug, Drop)]
+pub struct OpenText {
+    pub source: Text,
+    /// How many of its tokens were walked.
+    pub at: usize,
+    /// What may stand next.
+    pub parser: Parser,
+}
+
+/// A text behind one of its tokens, and what that made whole.
+#[derive(Debug, Drop)]
+struct Turn {
+    text: OpenText,
+    taken: Taken,
+}
+
+/// Where the tokens of a text stopped.
+#[derive(Debug, Drop)]
+pub enum Stop {
+    /// The text has ended.
+    Ended(Reading),
+    /// The text of that name stands here, and then the rest of this one.
+    Includes(OpenText, Word, Reading),
+}
+
+impl OpenText {
+    /// A text of which nothing was walked. Takes no memory.
+    pub fn new(source: Text) -> OpenText
+        requires stands { All (StandsIn source.bytes) source.tokens }
+        requires count { length source.tokens ≤ 1048576 }
+        ensures text { result ≡ begun source }
+        ensures holds { IsOpen result }
+    {
+        OpenText {
+            source,
+            at: 0,
+            parser: Parser::start(),
+        }
+    }
+
+    // The next token.
+    fn token(&self) -> Option<Token>
+        ensures { result ≡ slice_get self.now.source.tokens self.now.at }
+    {
+        self.source.tokens.get(self.at).copied()
+    }
+}
+
+// One token of a text.
+fn walk_token(
+    alloc: Global,
+    vars: &Vars,
+    text: OpenText,
+    token: Token,
+    reading: Reading,
+) -> Result<Turn, WalkFault>
+    requires holds { IsOpen text }
+    requires token { slice_get text.source.tokens text.at ≡ Some token }
+    requires room { deeper_of reading.outline + left_of text ≤ 1048576 }
+    ensures leads { (included : List ℕ → Reading → Result Reading WalkFault) → Leads (rest_walked included vars.now text reading) (goes_on included vars.now) result }
+    ensures holds { IfOk result (λ made. IsOpen made.text) }
+    ensures goes { IfOk result (Goes text reading) }
+    ensures fault { IfErr result IsNoFileFault }
+{
+    let OpenText { source, at, parser } = text;
+    let Move { parser, output } = step(alloc, vars, &source, parser, token)?;
+    let taken = take(alloc, output, reading)?;
+    let at = at + 1;
+    Ok(Turn {
+        text: OpenText { source, at, parser },
+        taken,
+    })
+}
+
+/// Walks the tokens of a text up to its end or a text that is included. Takes memory.
+pub fn run_text(
+    alloc: Global,
+    vars: &Vars,
+    mut text: OpenText,
+    mut reading: Reading,
+) -> Result<Stop, WalkFault>
+    requires holds { IsOpen text }
+    requires room { deeper_of reading.outline + left_of text ≤ 1048576 }
+    ensures leads { (included : List ℕ → Reading → Result Reading WalkFault) → Leads (rest_walked included vars.now text reading) (left_then included vars.now) result }
+    ensures stops { IfOk result (Stops text reading) }
+    ensures fault { IfErr result IsNoFileFault }
+{
+    while let Some(token) = text.token() {
+        let Turn {
+            text: behind,
+            taken,
+        } = walk_token(alloc, vars, text, token, reading)?;
+        match taken {
+            Taken::Goes(after) => {
+                text = behind;
+                reading = after;
+            }
+            Taken::Includes(name, after) => return Ok(Stop::Includes(behind, name, after)),
+        }
+    }
+    if !text.parser.may_end() {
+        let end = text.source.bytes.bytes().len() as u64;
+        return Err(bad_text(alloc, text.source.name.text(), end)?);
+    }
+    Ok(Stop::Ended(reading))
+}

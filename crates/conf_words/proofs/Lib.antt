@@ -1,0 +1,3 @@
+-- lemmas of the crate
+pub mod Cuts
+pub mod Steps

@@ -1,0 +1,109 @@
+-- `allocate` asks the allocator for bytes, and keeps the right to free them. Assumes `Logic`.
+use Rattle.std.proofs.Common.{◌≡◌, ℕ, ◌+◌, ◌*◌, ◌^◌, ◌<◌, List, [], ◌∷◌, ◌++◌, refl, ◌∙◌, arith, lit<, w64, true, false, Some, None}
+use mir.Syntax.{Ty, Fn, Args, a_type, dcons, dnil}
+use mir.Val.{Val, vint, vptr, vcons, vnil}
+use mir.MapTy.{inst_fn}
+use base.Logic.{SProp, emp, id⊢}
+use base.Fml.{Lft, Share, ftrue, flft, froom}
+use prog.Capped.{capped_is}
+use prog.Wp.{Env, WpFn}
+use contract.BorrowLft.{◌⊑◌, ⊑_trans}
+use contract.Monad.{fact, fact_i}
+use contract.Running.{tables}
+use types.Kit.{‵, raw, ◌⊛◌, later, prop, at_ret, ◌$◌, ◌∵◌, !, qed, by, move, drop, use0, use1, use2, use3, split, join, regoal, rewrite, fsplit, fjoin, flt_i, await}
+use types.Part.{whole, agg}
+use types.Match.{live, vrt, in_variant}
+use types.Run.{stop, fld, lit, of_opd, no_more, and_then, first, switches_on, exec, returns, enter}
+use types.ByLocal.{alloc_all, pass_all, free_all, look_at, get, get_in, get_tag, sets, sets_last, lands_as, env}
+use denote.RattleType.{RattleType, owns}
+use denote.RawPtr.{Ptr, block_ptr}
+use denote.Param.{param, bounded}
+use denote.Builtin.{usize, RefOf}
+use denote.Signature.{plain, types_at, type_at}
+use denote.Steps.{nothing, heard}
+use denote.Struct.Tuple.{Tuple}
+use denote.Triple.Entry.{alive}
+use denote.Triple.Call.{calls_at}
+use denote.Triple.Table.{framed}
+use denote.Triple.Walked.{Stays, stay_dropped, walk_of, Goes-dropped}
+use Rattle.std.proofs.alloc.Calls.{Al, seen, Takes, at_takes, Answered, Answer-typed, Takes-goes, Takes-gives, answers}
+use Rattle.std.proofs.alloc.Shapes.{after, head, arm_body}
+use Rattle.std.proofs.RcSteps.{Some-of, none_of}
+use Rattle.std.proofs.raw_atomic.Walks.{proved_at, leaves}
+use Rattle.region_pool.specs.Ownership.{bytes_of}
+use Rattle.region_pool.specs.contracts.memory.Bytes as bytes
+use Rattle.region_pool.specs.contracts.memory.Start as start
+use Rattle.region_pool.specs.contracts.memory.Deed as deed
+use Rattle.region_pool.specs.contracts.memory.Deed.allocate.{ended, clauses}
+use Rattle.region_pool.specs.contracts.memory.Deed.allocate.Key.{name as #self}
+use Rattle.region_pool.proofs.Rows.{none, mark, word, Mark, none_made, mark_made, word_made, three_val, three_of, then_runs}
+use Rattle.region_pool.proofs.memory.Deed.allocate.Statement.{statement}
+use Rattle.region_pool.proofs.memory.Deed.allocate.Code as compiled
+
+pub allocate_spec : {M : Type 1} → statement M
+allocate_spec 𝓤 𝓛 𝓜 𝓡 wired A L g d dd met md =
+    let H = 𝓛.H in
+    let T = ended A g d dd in
+    let c = clauses A g d dd 𝓛 𝓜.mem 𝓡.returns in
+    let args : Args = bounded (a_type ∷ []) (A, tt) (dcons d (dcons dd dnil)) in
+    let fn : Fn = inst_fn args compiled.function in
+    let stays : Stays T.signature.params T.kept = (stay_dropped (RefOf (0 ∷ []) tt (plain (λ _. param 0 A)) (λ _. tt)) T.kept.0, (stay_dropped (plain (λ _. usize)) T.kept.1.0, tt)) in
+    let C = (tables 𝓤 H 𝓜 𝓡 𝓡.env).C in
+    let Λ = (tables 𝓤 H 𝓜 𝓡 𝓡.env).Λ in
+    proved_at 𝓛 T stays c 𝓜 𝓡 (Goes-dropped 𝓛 2 (RefOf (0 ∷ []) tt (plain (λ _. param 0 A)) (λ _. tt)) T.kept.0 (λ κs x f. refl), (Goes-dropped 𝓛 2 (plain (λ _. usize)) T.kept.1.0 (λ κs x f. refl), tt)) (#self args) fn (compiled.unfolded 𝓤 H 𝓜 𝓡 wired (A, tt) d dd) (λ z are.
+    let Post : Val → SProp 𝓤 = (walk_of 𝓛 T stays c).post z in
+    let a = z.0.3 in
+    let vss = z.0.4 in
+    let Y : Al = record { row = A; laws = L; g = g; d = d; drops = dd } in
+    let κ : Lft = z.0.0.0 in
+    let q : Share = z.0.1.0 in
+    let Z : RattleType = param 0 A in
+    let h = a.0.now in
+    let at = a.0.ref_ptr in
+    let n = a.1.0 in
+    let τ : Ty = bytes_of n in
+    let y = at_takes Y 𝓛 𝓜.mem 𝓡.returns κ q at h n 1 τ in
+    let Out : RattleType = type_at T.signature.result z.0.0 in
+    let Dd : RattleType = deed.the_row Z g in
+    let Three : RattleType = Tuple (start.the_row ∷ bytes.the_row ∷ Dd ∷ []) in
+    let Asked : Type 0 = n < 2 ^ 63 in
+    qed 𝓛 ((raw (alive 𝓛 T.signature z.0.0 z.0.1) ⊛ ‵ (owns (types_at T.signature.params z.0.0) a vss)) ∷ (raw (fact 𝓤 (z.0.0.1.0 ⊑ A.lives)) ⊛ raw (fact 𝓤 Asked)) ∷ []) ∵
+    move ! (1 ∷ []) $ split ! $ heard ! (z.0.0.1.0 ⊑ A.lives) (λ le. heard ! Asked (λ small. split ! $ move ! (1 ∷ []) $
+    fsplit ! $ fsplit ! $ drop ! $ move ! (1 ∷ []) $ drop ! $ use1 𝓛 (‵ (seen Y κ at h)) (id⊢ 𝓤 _) $ move ! (1 ∷ []) $ use1 𝓛 (‵ (flft κ q) ⊛ ‵ (flft z.0.0.1.0 z.0.1.1.0) ⊛ ‵ ftrue) (id⊢ 𝓤 _) $ split ! $ move ! (2 ∷ 0 ∷ []) $
+    regoal ! (λ (us : List Val). prop (WpFn 𝓤 H C Λ fn us Post)) (λ i. are.0.0 i ++ (are.1.0.0 i ++ [])) refl $
+    enter ! C Λ fn (vptr at.0 at.1 ∷ vint w64 n ∷ []) Post $
+    alloc_all ! (λ l. pass_all ! refl ((tt, tt), ((tt, record { fits = are.1.0.1 }), tt)) $ let En : Env 𝓤 𝓛.H = env fn.locals l in
+    use2 𝓛 (raw ((Takes Y 𝓛 𝓜.mem 𝓡.returns).pre y)) (Takes-goes Y 𝓛 𝓜.mem 𝓡.returns κ q at h (⊑_trans κ z.0.0.1.0 A.lives z.0.2.0 le) n 1 τ (capped_is (n * 1) (omega arith) ∙ omega arith) refl are.1.0.1 (lit< tt)) $
+    calls_at ! (framed 𝓤 H 𝓜 (tables 𝓤 H 𝓜 𝓡 𝓡.env)) (Takes Y 𝓛 𝓜.mem 𝓡.returns) (met.allocate dd) y (and_then ! (get ! refl) (and_then ! (get ! refl) (and_then ! (lit ! tt) (no_more !)))) (λ v.
+    use1 𝓛 (later (raw (Answered Y 𝓛 𝓜.mem 𝓡.returns h τ v) ⊛ ‵ (flft κ q))) (Takes-gives Y 𝓛 𝓜.mem 𝓡.returns κ q at h n 1 τ v) $ await ! tt $ split ! $
+    answers Y ! 𝓜.mem 𝓡.returns h τ v
+    (λ b o e. move ! (2 ∷ 3 ∷ []) $ join ! $ move ! (1 ∷ 2 ∷ []) $ lands_as ! e refl (Answer-typed true b o) $
+    let p : Ptr = block_ptr b o in
+    let made : Val = three_val (word p) none mark in
+    first ! $ switches_on ! (get_tag ! (vrt ! refl (fld ! refl (stop !))) (whole !)) $ exec ! C Λ En (arm_body 0 (head (after 1 fn.body))) (then_runs 𝓛 C Λ En (after 2 fn.body) (at_ret En Post)) $
+    sets ! (of_opd ! (get_in ! (vrt ! refl (fld ! refl (stop !))) (in_variant ! 0 0 refl refl (whole !)))) refl (tt, tt) $
+    sets ! (agg ! (and_then ! (get ! refl) (no_more !))) refl (tt, (tt, tt)) $
+    sets ! (agg ! (no_more !)) refl (tt, tt) $
+    sets ! (agg ! (no_more !)) refl (tt, tt) $
+    sets ! (agg ! (and_then ! (get ! refl) (no_more !))) refl (tt, (tt, tt)) $
+    sets ! (agg ! (and_then ! (get ! refl) (and_then ! (get ! refl) (and_then ! (get ! refl) (no_more !))))) refl (tt, ((tt, tt), (tt, ((tt, tt), tt)))) $
+    sets_last ! (agg ! (and_then ! (lit ! tt) (and_then ! (get ! refl) (no_more !)))) refl (tt, (record { fits = lit< tt }, (((tt, tt), (tt, ((tt, tt), tt))), tt))) $
+    exec ! C Λ En (after 2 fn.body) (at_ret En Post) $
+    sets ! (of_opd ! (get ! refl)) refl (tt, (record { fits = lit< tt }, (((tt, tt), (tt, ((tt, tt), tt))), tt))) $
+    returns ! (look_at ! 0 refl) $ free_all ! refl $
+    -- [room for the bytes; the right to free them; the tokens]
+    let x : start.the_row.Denot = record { ptr = p } in let m : bytes.the_row.Denot = record { at = p; items = []; spare = n } in let k : Dd.Denot = record { by = record {}; at = p; len = n; alloc = h } in
+    rewrite ! 0 (λ (j : ℕ). ‵ (froom (bytes_of n) b j)) {x = 0 + o} (omega arith) refl $ nothing ! $ fjoin ! $ flt_i ! (0 + n) (2 ^ 63) (omega arith) $ fjoin ! $ none_made ! $ fjoin ! $
+    move ! (1 ∷ []) $ use0 𝓛 (‵ (Mark.own_val (tt, tt) (mark ∷ []))) (mark_made 𝓛) $ fjoin ! $ word_made ! p $ move ! (0 ∷ 2 ∷ 1 ∷ []) $
+    use3 𝓛 (‵ (Three.own_val (x, m, k) (made ∷ []))) (three_of 𝓛 start.the_row bytes.the_row Dd x m k (word p) none mark) $
+    use1 𝓛 (‵ (Out.own_val (Some (x, m, k)) (live 1 (vcons made vnil) ∷ []))) (Some-of 𝓛 Three (x, m, k) made) $
+    use0 𝓛 (raw (fact 𝓤 ((p ≡ p) × ([] ≡ []) × (n ≡ n) × (p ≡ p) × (n ≡ n) × (h ≡ h)))) (fact_i 𝓤 _ (emp 𝓤) (refl, refl, refl, refl, refl, refl)) $ nothing ! $ nothing ! $ fjoin ! $ nothing ! $ fjoin ! $ move ! (3 ∷ 0 ∷ 2 ∷ 1 ∷ []) $
+    by ! (leaves 𝓛 T stays c z (live 1 (vcons made vnil)) (Some (x, m, k)) (tt, (tt, tt)) (tt, (tt, tt))))
+    (λ e. join ! $ lands_as ! e refl (Answer-typed false 0 0) $
+    first ! $ switches_on ! (get_tag ! (vrt ! refl (fld ! refl (stop !))) (whole !)) $ exec ! C Λ En (arm_body 1 (head (after 1 fn.body))) (then_runs 𝓛 C Λ En (after 2 fn.body) (at_ret En Post)) $
+    sets_last ! (agg ! (and_then ! (lit ! tt) (no_more !))) refl (tt, (record { fits = lit< tt }, tt)) $
+    exec ! C Λ En (after 2 fn.body) (at_ret En Post) $
+    sets ! (of_opd ! (get ! refl)) refl (tt, (record { fits = lit< tt }, tt)) $
+    returns ! (look_at ! 0 refl) $ free_all ! refl $
+    use0 𝓛 (‵ (Out.own_val None (live 0 vnil ∷ []))) (none_of 𝓛 Three) $ use0 𝓛 (raw (fact 𝓤 (Unit {0}))) (fact_i 𝓤 (Unit {0}) (emp 𝓤) tt) $ nothing ! $ nothing ! $ fjoin ! $ nothing ! $ fjoin ! $ move ! (3 ∷ 0 ∷ 2 ∷ 1 ∷ []) $
+    by ! (leaves 𝓛 T stays c z (live 0 vnil) None (tt, (tt, tt)) (tt, (tt, tt)))))))))
