@@ -2,7 +2,9 @@
 ghost use Rattle.std.specs.Prelude.{◌≡◌, IfOk};
 ghost use Rattle.conf_keys.specs.Sections.{Answers};
 ghost use Rattle.conf_keys.specs.Within.{IsWithin};
-ghost use Rattle.conf_sections.specs.Conf.{conf_of, config_section, flash_section, image_section, nothing_said, with_config, with_item, with_items, with_section};
+ghost use Rattle.conf_sections.specs.Conf.{conf_of, config_section, flash_section, image_section};
+ghost use Rattle.conf_sections.specs.Conf.{nothing_said, with_config, with_item, with_items};
+ghost use Rattle.conf_sections.specs.Conf.{with_section};
 
 use crate::image::image_of;
 use base_fields::{List, Name};
@@ -108,7 +110,8 @@ fn nothing_said(alloc: Global) -> Conf
     }
 }
 
-/// What these items at the top say, with no name of a text, or their first fault in order. Takes memory.
+/// What these items at the top say, with no name of a text, or their first fault in order.
+/// Takes memory.
 pub(crate) fn conf_of(alloc: Global, items: &[TopItem]) -> Result<Conf, SectionFault>
     ensures answers { Answers (conf_of items.now) result }
     ensures within { IfOk result IsWithin }

@@ -2,7 +2,11 @@
 ghost use Rattle.std.specs.Prelude.{◌≡◌, ◌≤◌, IfOk, IsSome, length};
 ghost use Rattle.conf_keys.specs.Sections.{Answers, answer, name_text, named_fault};
 ghost use Rattle.conf_keys.specs.Within.{IsImageWithin};
-ghost use Rattle.conf_sections.specs.Image.{counted, image_named, image_of, is_image_made, is_made, is_partition, keyed, keys_of, kind_of, left_behind, of_kind, origin_of, read_as, taken, with_item, with_items, with_key, with_keys, with_kind, with_partition, with_section};
+ghost use Rattle.conf_sections.specs.Image.{counted, image_named, image_of, is_image_made};
+ghost use Rattle.conf_sections.specs.Image.{is_made, is_partition, keyed, keys_of, kind_of};
+ghost use Rattle.conf_sections.specs.Image.{left_behind, of_kind, origin_of, read_as, taken};
+ghost use Rattle.conf_sections.specs.Image.{with_item, with_items, with_key, with_keys};
+ghost use Rattle.conf_sections.specs.Image.{with_kind, with_partition, with_section};
 
 use base_fields::{List, Name};
 use conf_items::{Given, Head, Setting, Subsection, TopSection};
@@ -330,7 +334,8 @@ fn read_as(alloc: Global, origin: Origin, top: &TopSection) -> Result<ImageSecti
     Ok(with_keys(alloc, origin, top.settings.as_slice(), whole)?)
 }
 
-/// An image, or its first fault: that of its name, and then those of its items in order. Takes memory.
+/// An image, or its first fault: that of its name, and then those of its items in order.
+/// Takes memory.
 pub(crate) fn image_of(alloc: Global, top: &TopSection) -> Result<ImageSection, SectionFault>
     ensures answers { Answers (image_of top.now) result }
     ensures within { IfOk result IsImageWithin }

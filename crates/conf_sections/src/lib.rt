@@ -1,5 +1,5 @@
-//! What a configuration says: its main text with all that it includes, as the images and flash devices of
-//! its sections, or the first thing that is refused.
+//! What a configuration says: its main text with all that it includes, as the images and flash
+//! devices of its sections, or the first thing that is refused.
 #![tactic(auto)]
 
 mod conf;

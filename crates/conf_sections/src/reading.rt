@@ -1,7 +1,8 @@
 ghost use Rattle.std.specs.Prelude.{◌≡◌, IfErr, IfOk};
 ghost use Rattle.outside.specs.Counts.{NoneFell};
 ghost use Rattle.conf_keys.specs.Within.{IsWithin};
-ghost use Rattle.conf_sections.specs.Reading.{Answers, HasCause, IsOfItems, Refuses, item_fault, resolved, said, text_name, walk_fault};
+ghost use Rattle.conf_sections.specs.Reading.{Answers, HasCause, IsOfItems, Refuses, item_fault};
+ghost use Rattle.conf_sections.specs.Reading.{resolved, said, text_name, walk_fault};
 
 use crate::conf::conf_of;
 use crate::{Conf, ConfFault, Vars};
@@ -76,8 +77,8 @@ fn said(alloc: Global, texts: Texts) -> Result<Conf, ConfFault>
     }
 }
 
-/// Reads the configuration of that name, with all texts that it includes and with these variables. Takes memory.
-/// Every file stays as it is.
+/// Reads the configuration of that name, with all texts that it includes and with these variables.
+/// Takes memory. Every file stays as it is.
 pub fn read_conf<F: Files>(
     alloc: Global,
     files: &mut F,

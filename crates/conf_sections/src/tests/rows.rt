@@ -21,8 +21,8 @@ pub(crate) const INCLUDED: [(&str, &[u8]); 6] = [
     ("open", b"image a {"),
 ];
 
-// Variables, a main text, and what is said of it. An @ marks the place of a fault in the main text, and is
-// no part of it.
+// Variables, a main text, and what is said of it. An @ marks the place of a fault in the main
+// text, and is no part of it.
 pub(crate) type Row = (Variables, &'static [u8], &'static str);
 
 // What stands at the top.
