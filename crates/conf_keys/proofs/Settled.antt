@@ -1,5 +1,5 @@
 -- What a section's settings have where none of them has a fault.
-use Rattle.std.proofs.Common.{◌≡◌, ℕ, Bool, cond, true, false, List, [], ◌∷◌, Option, Some, None, Result, Ok, Err, refl, ◌∙◌, sym, ap}
+use Rattle.std.proofs.Common.{◌≡◌, ℕ, Bool, cond, true, false, List, [], ◌∷◌, ◌++◌, length, Option, Some, None, refl, ◌∙◌, ap}
 use mathlib.Core.List.{reverse_aux}
 use Rattle.std.specs.Prelude.{All, IfSome, find, is_none, option_and_then, reverse, IsSomeAnd}
 use Rattle.std.specs.Option.{option_or}
@@ -14,40 +14,30 @@ use Rattle.conf_keys.specs.declared.checking.SectionFault.{SectionFault}
 use Rattle.conf_keys.specs.declared.checking.SectionFault.TheVariants.{UnknownKey}
 use Rattle.conf_keys.specs.declared.settings.Section.{Section}
 use Rattle.conf_keys.specs.declared.settings.Shape.{Shape}
-use Rattle.conf_keys.specs.Checking.{chained, checked, given_step, held_from, keyed_step, one_fault, refused, shaped_step, step_of}
-use Rattle.conf_keys.specs.Sections.{fault_in, is_lacking, section_fault}
+use Rattle.conf_keys.specs.Checking.{fault_behind, first_fault, given_fault, keyed_fault, one_fault, setting_fault, shaped_fault}
+use Rattle.conf_keys.specs.Holes.{holes_of}
+use Rattle.conf_keys.specs.Sections.{is_lacking, section_fault}
 use Rattle.conf_keys.specs.Settings.{fits, given_text, has_key, last_of, last_text, shape_of, takes_sections, text_of}
 
 -- ---- no fault
-
-pub chained_ok : {A B : Type 0} (next : A → Result B SectionFault) (r : Result A SectionFault) (after : B) → chained next r ≡ Ok after
-    → (middle : A) × (r ≡ Ok middle) × (next middle ≡ Ok after)
-chained_ok next (Ok middle) after e = (middle, refl, e)
-chained_ok next (Err fault) after e = absurd (cc)
 
 pub neither : {X : Type 0} (a b : Option X) → None ≡ option_or a b → (None ≡ a) × (None ≡ b)
 neither None b e = (refl, e)
 neither (Some x) b e = absurd (cc)
 
-no_fault : (r : Result ℕ SectionFault) → None ≡ fault_in r → (held : ℕ) × (r ≡ Ok held)
-no_fault (Ok held) e = (held, refl)
-no_fault (Err fault) e = absurd (cc)
-
--- a section without a fault has none at its head, and all its settings pass
+-- a section without a fault has none at its head and none in its settings
 pub faultless : (head : Option SectionFault) (whose : Section) (settings : List Setting) → None ≡ section_fault head whose settings
-    → (None ≡ head) × ((held : ℕ) × (held_from whose settings 0 ≡ Ok held))
-faultless head whose settings e =
-    let both = neither head (fault_in (checked whose settings)) e in
-    (both.0, no_fault (checked whose settings) both.1)
+    → (None ≡ head) × (None ≡ first_fault whose settings)
+faultless head whose settings e = neither head (first_fault whose settings) e
 
 abbrev pub Passes : Section → Setting → Type 0
-Passes whose setting = (held : ℕ) × (after : ℕ) × (step_of whose held setting ≡ Ok after)
+Passes whose setting = (before : ℕ) × (None ≡ setting_fault whose before setting)
 
-pub all_pass : (whose : Section) (settings : List Setting) (held after : ℕ) → held_from whose settings held ≡ Ok after → All (Passes whose) settings
-all_pass whose [] held after e = All-nil (Passes whose)
-all_pass whose (setting ∷ rest) held after e =
-    let step = chained_ok (held_from whose rest) (step_of whose held setting) after e in
-    All-cons (Passes whose) setting rest (held, step.0, step.1) (all_pass whose rest step.0 after step.2)
+all_pass : (whose : Section) (front settings : List Setting) → None ≡ fault_behind whose front settings → All (Passes whose) settings
+all_pass whose front [] e = All-nil (Passes whose)
+all_pass whose front (setting ∷ rest) e =
+    let both = neither (setting_fault whose (length (holes_of front)) setting) (fault_behind whose (front ++ setting ∷ []) rest) e in
+    All-cons (Passes whose) setting rest (length (holes_of front), both.0) (all_pass whose (front ++ setting ∷ []) rest both.1)
 
 -- ---- the last setting of a key
 
@@ -74,29 +64,29 @@ last_gives key P settings h = find_gives (has_key key) P (reverse settings) (All
 
 -- the shape is one of single values
 abbrev pub IsSingle : Shape → Type 0
-IsSingle form = (held : ℕ) (what : Given) → shaped_step held form what ≡ refused held (one_fault form what)
+IsSingle form = (before : ℕ) (what : Given) → shaped_fault before form what ≡ one_fault form what
 
 abbrev pub IsFitting : Shape → Option (List ℕ) → Type 0
 IsFitting form found = IsSomeAnd found (λ text. fits form text ≡ true)
 
-fits_from : (fits : Bool) (held after : ℕ) (fault : SectionFault) → refused held (cond fits None (Some fault)) ≡ Ok after → fits ≡ true
-fits_from true held after fault e = refl
-fits_from false held after fault e = absurd (cc)
+fits_from : (fits : Bool) (fault : SectionFault) → None ≡ cond fits None (Some fault) → fits ≡ true
+fits_from true fault e = refl
+fits_from false fault e = absurd (cc)
 
-single_step : (whose : Section) (form : Shape) (key : Word) (held after : ℕ) (what : Given) → shape_of whose key.text ≡ Some form → IsSingle form
-    → keyed_step held key.place (shape_of whose key.text) what ≡ Ok after → refused held (one_fault form what) ≡ Ok after
-single_step whose form key held after what shape single e = sym (single held what) ∙ (sym (ap (λ found. keyed_step held key.place found what) shape) ∙ e)
+single_fault : (whose : Section) (form : Shape) (key : Word) (before : ℕ) (what : Given) → shape_of whose key.text ≡ Some form → IsSingle form
+    → None ≡ keyed_fault before key.place (shape_of whose key.text) what → None ≡ one_fault form what
+single_fault whose form key before what shape single e = (e ∙ ap (λ found. keyed_fault before key.place found what) shape) ∙ single before what
 
-given_fits : (whose : Section) (form : Shape) (key : Word) (held after : ℕ) (what : Given) → takes_sections whose ≡ false → shape_of whose key.text ≡ Some form → IsSingle form
-    → given_step whose held key what ≡ Ok after → IsFitting form (given_text what)
-given_fits whose form key held after (given.Set (One word)) none shape single e =
-    fits_from (fits form word.text) held after _ (single_step whose form key held after (given.Set (One word)) shape single e)
-given_fits whose form key held after (given.Set (Many place words)) none shape single e =
-    let fails = single_step whose form key held after (given.Set (Many place words)) shape single e in absurd (cc)
-given_fits whose form key held after (given.Added value) none shape single e =
-    let fails = single_step whose form key held after (given.Added value) shape single e in absurd (cc)
-given_fits whose form key held after given.Section none shape single e =
-    let fails = sym (ap (λ taken. cond taken (Ok held) (Err (UnknownKey key.place))) none) ∙ e in absurd (cc)
+given_fits : (whose : Section) (form : Shape) (key : Word) (before : ℕ) (what : Given) → takes_sections whose ≡ false → shape_of whose key.text ≡ Some form → IsSingle form
+    → None ≡ given_fault whose before key what → IsFitting form (given_text what)
+given_fits whose form key before (given.Set (One word)) none shape single e =
+    fits_from (fits form word.text) _ (single_fault whose form key before (given.Set (One word)) shape single e)
+given_fits whose form key before (given.Set (Many place words)) none shape single e =
+    let fails = single_fault whose form key before (given.Set (Many place words)) shape single e in absurd (cc)
+given_fits whose form key before (given.Added value) none shape single e =
+    let fails = single_fault whose form key before (given.Added value) shape single e in absurd (cc)
+given_fits whose form key before given.Section none shape single e =
+    let fails = e ∙ ap (λ taken. cond taken None (Some (UnknownKey key.place))) none in absurd (cc)
 
 pub key_is : (key : List ℕ) (setting : Setting) → has_key key setting ≡ true → setting.key.text ≡ key
 key_is key setting e = (bytes_eq-Decides setting.key.text key).0 e
@@ -104,13 +94,13 @@ key_is key setting e = (bytes_eq-Decides setting.key.text key).0 e
 setting_fits : (whose : Section) (form : Shape) (key : List ℕ) (setting : Setting) → takes_sections whose ≡ false → shape_of whose key ≡ Some form → IsSingle form
     → has_key key setting ≡ true → Passes whose setting → IsFitting form (text_of setting)
 setting_fits whose form key setting none shape single has passes =
-    given_fits whose form setting.key passes.0 passes.1 setting.given none (ap (shape_of whose) (key_is key setting has) ∙ shape) single passes.2
+    given_fits whose form setting.key passes.0 setting.given none (ap (shape_of whose) (key_is key setting has) ∙ shape) single passes.1
 
 -- a key that isn't lacking has a single value that fits, in a section of which no setting has a fault
-pub last_fits : (whose : Section) (form : Shape) (key : List ℕ) (settings : List Setting) (held : ℕ) → takes_sections whose ≡ false → shape_of whose key ≡ Some form → IsSingle form
-    → held_from whose settings 0 ≡ Ok held → is_lacking key settings ≡ false → IsFitting form (last_text key settings)
-last_fits whose form key settings held none shape single faultless lacking =
-    at (last_of key settings) (last_gives key (Passes whose) settings (all_pass whose settings 0 held faultless)) lacking
+pub last_fits : (whose : Section) (form : Shape) (key : List ℕ) (settings : List Setting) → takes_sections whose ≡ false → shape_of whose key ≡ Some form → IsSingle form
+    → None ≡ first_fault whose settings → is_lacking key settings ≡ false → IsFitting form (last_text key settings)
+last_fits whose form key settings none shape single faultless lacking =
+    at (last_of key settings) (last_gives key (Passes whose) settings (all_pass whose [] settings faultless)) lacking
   where
     at : (last : Option Setting) → IfSome last (λ setting. (has_key key setting ≡ true) × Passes whose setting) → is_none last ≡ false → IsFitting form (option_and_then text_of last)
     at None h e = absurd (cc)

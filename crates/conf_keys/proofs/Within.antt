@@ -69,10 +69,10 @@ flash_within head settings found is e =
     let lacks = neither_test (is_lacking (codes "pebsize") settings) (is_lacking (codes "numpebs") settings) tests.0 in
     let size : is_some (pebsize_at settings) ≡ true
     = is_there (size_from 1) (last_text (codes "pebsize") settings)
-    (last_fits section.Flash (shape.Size 1) (codes "pebsize") settings none.1.0 refl refl (λ held what. refl) none.1.1 lacks.0) in
+    (last_fits section.Flash (shape.Size 1) (codes "pebsize") settings refl refl (λ before what. refl) none.1 lacks.0) in
     let count : is_some (numpebs_at settings) ≡ true
     = is_there (number_between 1 (2 ^ 64 - 1)) (last_text (codes "numpebs") settings)
-    (last_fits section.Flash (shape.Number 1 (2 ^ 64 - 1)) (codes "numpebs") settings none.1.0 refl refl (λ held what. refl) none.1.1 lacks.1) in
+    (last_fits section.Flash (shape.Number 1 (2 ^ 64 - 1)) (codes "numpebs") settings refl refl (λ before what. refl) none.1 lacks.1) in
     record {
       name = named_length head.word.place head.name heads.1;
       pebsize = (there_within (IsSizeFrom 1) (pebsize_at settings) 0 size (size_at_within 1 (codes "pebsize") settings)).0;
@@ -114,7 +114,7 @@ sparse_image head settings found is e =
     let none = faultless found section.Sparse settings e in
     let there = first_none (is_lacking (codes "image") settings) (fault.BadValue head.word.place) (unnamed_fault head) (none.0 ∙ is) in
     some_text (last_text (codes "image") settings)
-    (last_fits section.Sparse shape.Text (codes "image") settings none.1.0 refl refl (λ held what. refl) none.1.1 there.0)
+    (last_fits section.Sparse shape.Text (codes "image") settings refl refl (λ before what. refl) none.1 there.0)
 
 -- ---- partition
 
@@ -137,5 +137,5 @@ partition_within head settings found is e =
       align = size_at_within 1 (codes "align") settings;
       partition_type = number_at_within 1 255 (codes "partition-type") settings;
       holes = holes_within settings;
-      few_holes = few_holes settings none.1.0 none.1.1;
+      few_holes = few_holes settings none.1;
     }

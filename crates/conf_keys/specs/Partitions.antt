@@ -1,20 +1,17 @@
 -- The keys of a partition, from its settings in order.
-use Rattle.std.specs.Prelude.{ℕ, true, false, List, [], ◌++◌, Option, Some, None, option_and_then, option_to_list, unwrap_or, Result, codes, fold, if◌then◌else◌}
+use Rattle.std.specs.Prelude.{ℕ, true, false, List, Option, Some, None, option_and_then, unwrap_or, Result, codes, if◌then◌else◌}
 use Rattle.conf_keys.specs.declared.checking.SectionFault.{SectionFault}
 use Rattle.conf_keys.specs.declared.checking.SectionFault.TheVariants.{BadValue}
-use Rattle.conf_keys.specs.declared.conf.Hole.{Hole}
 use Rattle.conf_keys.specs.declared.conf.PartitionSection.{PartitionSection}
 use Rattle.conf_items.specs.declared.items.Head.{Head}
 use Rattle.conf_items.specs.declared.items.Place.{Place}
 use Rattle.conf_items.specs.declared.items.Word.{Word}
-use Rattle.conf_items.specs.declared.items.Value.TheVariants.{Many}
-use Rattle.conf_items.specs.declared.items.Given.{Given}
-use Rattle.conf_items.specs.declared.items.Given.TheVariants as given
 use Rattle.conf_items.specs.declared.items.Setting.{Setting}
 use Rattle.conf_keys.specs.declared.settings.Section.TheVariants as section
+use Rattle.conf_keys.specs.Holes.{holes_of}
 use Rattle.conf_keys.specs.Sections.{answer, identifier_at, name_text, number_at, section_fault, size_at, truth_at}
-use Rattle.conf_keys.specs.Settings.{has_key, last_text}
-use Rattle.conf_keys.specs.Values.{hole_of, is_partition_name, linux_data, type_of}
+use Rattle.conf_keys.specs.Settings.{last_text}
+use Rattle.conf_keys.specs.Values.{is_partition_name, linux_data, type_of}
 
 -- a partition has to have a name, of 1 to 36 characters of 0x20 to 0x7E
 abbrev pub name_unfit : Place → Option Word → Option SectionFault
@@ -26,22 +23,6 @@ partition_head_fault head = name_unfit head.word.place head.name
 
 abbrev pub type_at : List Setting → Option (List ℕ)
 type_at settings = option_and_then type_of (last_text (codes "partition-type-uuid") settings)
-
--- ---- holes: = begins them anew, += appends
-
-abbrev pub with_hole : List Hole → Word → List Hole
-with_hole holes word = holes ++ option_to_list (hole_of word.text)
-
-abbrev pub given_holes : List Hole → Given → List Hole
-given_holes holes (given.Set (Many place words)) = fold with_hole [] words
-given_holes holes (given.Added (Many place words)) = fold with_hole holes words
-given_holes holes _ = holes
-
-abbrev pub with_setting : List Hole → Setting → List Hole
-with_setting holes setting = if has_key (codes "holes") setting then given_holes holes setting.given else holes
-
-abbrev pub holes_of : List Setting → List Hole
-holes_of settings = fold with_setting [] settings
 
 -- ---- all keys
 

@@ -18,7 +18,7 @@ use Rattle.conf_keys.specs.declared.settings.Section.TheVariants as section
 use Rattle.conf_items.specs.declared.items.Head.{Head}
 use Rattle.conf_keys.specs.declared.checking.SectionFault.{SectionFault}
 use Rattle.conf_keys.specs.declared.checking.SectionFault.TheVariants.{BadValue, NoMemory}
-use Rattle.conf_keys.specs.Checking.{checked}
+use Rattle.conf_keys.specs.Checking.{first_fault}
 use Rattle.conf_keys.specs.Settings.{last_of, last_text}
 use Rattle.conf_keys.specs.Values.{number_between, power_between, sector_of, size_from, table_of, truth_of}
 
@@ -47,13 +47,9 @@ word_text (Some word) = word.text
 abbrev pub name_text : Head → List ℕ
 name_text head = word_text head.name
 
-abbrev pub fault_in : Result ℕ SectionFault → Option SectionFault
-fault_in (Ok held) = None
-fault_in (Err fault) = Some fault
-
 -- the fault of the head comes first, then that of the first setting that has one
 abbrev pub section_fault : Option SectionFault → Section → List Setting → Option SectionFault
-section_fault head whose settings = option_or head (fault_in (checked whose settings))
+section_fault head whose settings = option_or head (first_fault whose settings)
 
 abbrev pub answer : {Keys : Type 0} → Option SectionFault → Keys → Result Keys SectionFault
 answer None keys = Ok keys

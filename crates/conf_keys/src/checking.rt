@@ -1,7 +1,10 @@
 //! The first setting of a section that has another key or value.
-ghost use Rattle.std.specs.Prelude.{◌≡◌};
-ghost use Rattle.conf_keys.specs.Checking.{checked, hole_step, holes_from, is_hole, listed_holes};
-ghost use Rattle.conf_keys.specs.Checking.{one_fault, shaped_step, step_of, value_place};
+ghost use Rattle.std.specs.Prelude.{◌≡◌, List, filter, length};
+ghost use Rattle.conf_keys.specs.declared.conf.Hole.{Hole};
+ghost use Rattle.conf_keys.specs.Checking.{first_fault, held, is_hole, listed_fault, one_fault};
+ghost use Rattle.conf_keys.specs.Checking.{setting_fault, shaped_fault, value_place, word_fault};
+ghost use Rattle.conf_keys.specs.Checking.{words_fault};
+ghost use Rattle.conf_keys.specs.Holes.{with_setting};
 
 use crate::settings::{Section, Shape};
 use crate::values;
@@ -51,35 +54,36 @@ fn is_hole(word: &Word) -> bool
     values::hole(word.text.text().as_bytes()).is_some()
 }
 
-// How many holes there are with these behind `held` others, or the first that is none or one too
-// many.
-fn holes_from(held: usize, words: &[Word]) -> Result<usize, SectionFault>
-    ensures { result ≡ holes_from words.now held }
+// The fault of a word in a list of holes, in front of which there are so many holes.
+fn word_fault(before: usize, word: &Word) -> Option<SectionFault>
+    ensures { result ≡ word_fault before word.now }
 {
-    let mut count = held;
-    for word in words {
-        count = hole_step(count, word)?;
-    }
-    Ok(count)
-}
-
-fn hole_step(held: usize, word: &Word) -> Result<usize, SectionFault>
-    ensures { result ≡ hole_step held word.now }
-{
-    if is_hole(word) && held < MOST_HOLES {
-        Ok(held + 1)
+    if is_hole(word) && before < MOST_HOLES {
+        None
     } else {
-        Err(SectionFault::BadValue { place: word.place })
+        Some(SectionFault::BadValue { place: word.place })
     }
 }
 
-// The same of the value of `holes`.
-fn listed_holes(held: usize, value: &Value) -> Result<usize, SectionFault>
-    ensures { result ≡ listed_holes held value.now }
+fn words_fault(before: usize, words: &[Word]) -> Option<SectionFault>
+    ensures { result ≡ words_fault before words.now }
+{
+    let mut count = before;
+    for word in words {
+        if let Some(fault) = word_fault(count, word) {
+            return Some(fault);
+        }
+        count += 1;
+    }
+    None
+}
+
+fn listed_fault(before: usize, value: &Value) -> Option<SectionFault>
+    ensures { result ≡ listed_fault before value.now }
 {
     match value {
-        Value::One(word) => Err(SectionFault::BadValue { place: word.place }),
-        Value::Many(_, words) => holes_from(held, words.as_slice()),
+        Value::One(word) => Some(SectionFault::BadValue { place: word.place }),
+        Value::Many(_, words) => words_fault(before, words.as_slice()),
     }
 }
 
@@ -96,45 +100,71 @@ fn one_fault(shape: Shape, given: &Given) -> Option<SectionFault>
     }
 }
 
-// How many holes there are behind a setting of this shape, or its fault.
-fn shaped_step(shape: Shape, held: usize, given: &Given) -> Result<usize, SectionFault>
-    ensures { result ≡ shaped_step held shape given.now }
+fn shaped_fault(shape: Shape, before: usize, given: &Given) -> Option<SectionFault>
+    ensures { result ≡ shaped_fault before shape given.now }
 {
     match (shape, given) {
-        (Shape::Anything, _) => Ok(held),
-        (Shape::Holes, Given::Set(value)) => listed_holes(0, value),
-        (Shape::Holes, Given::Added(value)) => listed_holes(held, value),
-        _ => match one_fault(shape, given) {
-            Some(fault) => Err(fault),
-            None => Ok(held),
-        },
+        (Shape::Anything, _) => None,
+        (Shape::Holes, Given::Set(value)) => listed_fault(0, value),
+        (Shape::Holes, Given::Added(value)) => listed_fault(before, value),
+        _ => one_fault(shape, given),
     }
 }
 
-/// How many holes there are behind this setting, or its fault.
-pub(crate) fn step(section: Section, held: usize, setting: &Setting) -> Result<usize, SectionFault>
-    ensures { result ≡ step_of section held setting.now }
+/// The fault of a setting, in front of which there are so many holes.
+pub(crate) fn setting_fault(
+    section: Section,
+    before: usize,
+    setting: &Setting,
+) -> Option<SectionFault>
+    ensures { result ≡ setting_fault section before setting.now }
 {
     let place = setting.key.place;
     if let Given::Section = &setting.given {
         if section.takes_sections() {
-            return Ok(held);
+            return None;
         }
-        return Err(SectionFault::UnknownKey { place });
+        return Some(SectionFault::UnknownKey { place });
     }
     match section.shape(setting.key.text.text()) {
-        Some(shape) => shaped_step(shape, held, &setting.given),
-        None => Err(SectionFault::UnknownKey { place }),
+        Some(shape) => shaped_fault(shape, before, &setting.given),
+        None => Some(SectionFault::UnknownKey { place }),
     }
 }
 
-// The first fault of the settings, else how many holes they give.
-pub(crate) fn check(section: Section, settings: &[Setting]) -> Result<usize, SectionFault>
-    ensures { result ≡ checked section settings.now }
+fn holes_among(words: &[Word]) -> usize
+    ensures { result ≡ length (filter is_hole words.now) }
 {
-    let mut held = 0;
-    for setting in settings {
-        held = step(section, held, setting)?;
+    words.iter().filter(|word| is_hole(word)).count()
+}
+
+// How many holes there are behind a setting, where there were so many before, as far as a usize
+// holds them.
+fn holes_behind(before: usize, setting: &Setting) -> usize
+    ensures { (had : List Hole) → before ≡ held had → result ≡ held (with_setting had setting.now) }
+{
+    if setting.key.text.text() != "holes" {
+        return before;
     }
-    Ok(held)
+    match &setting.given {
+        Given::Set(Value::Many(_, words)) => holes_among(words.as_slice()),
+        Given::Added(Value::Many(_, words)) => {
+            before.saturating_add(holes_among(words.as_slice()))
+        }
+        _ => before,
+    }
+}
+
+/// The first fault of the settings.
+pub(crate) fn first_fault(section: Section, settings: &[Setting]) -> Option<SectionFault>
+    ensures { result ≡ first_fault section settings.now }
+{
+    let mut before = 0;
+    for setting in settings {
+        if let Some(fault) = setting_fault(section, before, setting) {
+            return Some(fault);
+        }
+        before = holes_behind(before, setting);
+    }
+    None
 }

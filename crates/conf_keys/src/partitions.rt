@@ -1,8 +1,8 @@
 //! The keys of a partition, from its settings in order.
 ghost use Rattle.std.specs.Prelude.{◌≡◌, ◌++◌, IfOk, OnOk, fold};
-ghost use Rattle.conf_keys.specs.Partitions.{given_holes, holes_of, partition_head_fault};
-ghost use Rattle.conf_keys.specs.Partitions.{partition_of, partition_values, type_at, with_hole};
-ghost use Rattle.conf_keys.specs.Partitions.{with_setting};
+ghost use Rattle.conf_keys.specs.Holes.{given_holes, holes_of, with_hole, with_setting};
+ghost use Rattle.conf_keys.specs.Partitions.{partition_head_fault, partition_of, partition_values};
+ghost use Rattle.conf_keys.specs.Partitions.{type_at};
 ghost use Rattle.conf_keys.specs.Sections.{Answers};
 ghost use Rattle.conf_keys.specs.Within.{IsPartitionWithin};
 

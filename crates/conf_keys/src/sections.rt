@@ -1,8 +1,8 @@
 //! The keys of each section, from its settings in order.
 ghost use Rattle.std.specs.Prelude.{◌≡◌, IfOk, IfSome, IsSome, MatchResult};
-ghost use Rattle.conf_keys.specs.Checking.{step_of};
+ghost use Rattle.conf_keys.specs.Checking.{setting_fault};
 ghost use Rattle.conf_keys.specs.Settings.{last_text};
-ghost use Rattle.conf_keys.specs.Sections.{Answers, fault_in, flash_head_fault, flash_of};
+ghost use Rattle.conf_keys.specs.Sections.{Answers, flash_head_fault, flash_of};
 ghost use Rattle.conf_keys.specs.Sections.{flash_values, image_values, is_past, is_too_large};
 ghost use Rattle.conf_keys.specs.Sections.{lacks_key, name_text, named_fault, numpebs_at};
 ghost use Rattle.conf_keys.specs.Sections.{pebsize_at, block_size_at, config_of, config_values};
@@ -12,7 +12,7 @@ ghost use Rattle.conf_keys.specs.Sections.{sector_at, size_at, sparse_head_fault
 ghost use Rattle.conf_keys.specs.Sections.{sparse_values, table_at, truth_at, unnamed_fault};
 ghost use Rattle.conf_keys.specs.Within.{IsFlashWithin, IsHdWithin, IsSizeFrom, IsSparseWithin};
 
-use crate::checking::{SectionFault, check, step};
+use crate::checking::{SectionFault, first_fault, setting_fault};
 use crate::conf::{ConfigKeys, FlashSection, HdKeys, ImageKeys, PlainKeys, SparseKeys};
 use crate::settings::{Section, last, last_text};
 use crate::values::{self, MOST_SIZE};
@@ -63,10 +63,9 @@ pub(crate) fn section_fault(
 ) -> Option<SectionFault>
     ensures { result ≡ section_fault head section settings.now }
 {
-    match (head, check(section, settings)) {
-        (Some(fault), _) => Some(fault),
-        (None, Err(fault)) => Some(fault),
-        (None, Ok(_)) => None,
+    match head {
+        Some(fault) => Some(fault),
+        None => first_fault(section, settings),
     }
 }
 
@@ -379,12 +378,9 @@ pub fn image_head_fault(head: &Head) -> Option<SectionFault>
 /// The fault of one item of an image that is no list of holes. Where the image has a kind, the
 /// section is `Section::Image`, else `Section::Ready`; a section inside has no fault here.
 pub fn item_fault(section: Section, item: &Setting) -> Option<SectionFault>
-    ensures { result ≡ fault_in (step_of section 0 item.now) }
+    ensures { result ≡ setting_fault section 0 item.now }
 {
-    match step(section, 0, item) {
-        Ok(_) => None,
-        Err(fault) => Some(fault),
-    }
+    setting_fault(section, 0, item)
 }
 
 /// The keys of an image itself, whose items have no fault. Takes memory.

@@ -1,6 +1,6 @@
 use Rattle.std.proofs.Common.{◌≡◌, drop}
 use Rattle.std.specs.List.{fold}
-use Rattle.conf_keys.specs.Partitions.{with_hole}
+use Rattle.conf_keys.specs.Holes.{with_hole}
 use Rattle.conf_keys.proofs.partitions.add_holes.Given as goal
 
 abbrev pub invariant-loop-word : goal.invariant-loop-word

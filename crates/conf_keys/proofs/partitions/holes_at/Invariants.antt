@@ -1,6 +1,6 @@
 use Rattle.std.proofs.Common.{◌≡◌, drop}
 use Rattle.std.specs.List.{fold}
-use Rattle.conf_keys.specs.Partitions.{holes_of, with_setting}
+use Rattle.conf_keys.specs.Holes.{holes_of, with_setting}
 use Rattle.conf_keys.proofs.partitions.holes_at.Given as goal
 
 abbrev pub invariant-loop-setting : goal.invariant-loop-setting
