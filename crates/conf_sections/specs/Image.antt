@@ -14,9 +14,9 @@ use Rattle.conf_keys.specs.declared.conf.Kind.{Kind}
 use Rattle.conf_keys.specs.declared.conf.Kind.TheVariants as kind
 use Rattle.conf_keys.specs.declared.settings.Section.{Section}
 use Rattle.conf_keys.specs.declared.settings.Section.TheVariants as section
-use Rattle.conf_keys.specs.Checking.{step_of}
+use Rattle.conf_keys.specs.Checking.{setting_fault}
 use Rattle.conf_keys.specs.Partitions.{partition_of}
-use Rattle.conf_keys.specs.Sections.{answer, fault_in, hd_of, hd_values, image_values, name_text, named_fault, plain_of, plain_values, section_fault, sparse_of, sparse_values, unnamed_fault}
+use Rattle.conf_keys.specs.Sections.{answer, hd_of, hd_values, image_values, name_text, named_fault, plain_of, plain_values, section_fault, sparse_of, sparse_values, unnamed_fault}
 use Rattle.conf_walk.specs.Walk.{◌>>=◌}
 use Rattle.conf_sections.specs.declared.image.Origin.{Origin}
 use Rattle.conf_sections.specs.declared.image.Origin.TheVariants.{Made, Ready}
@@ -86,7 +86,7 @@ keys_of Ready = section.Ready
 
 -- a key of the image itself leaves it as it is, where it has no fault
 abbrev pub with_key : Origin → ImageSection → Setting → Result ImageSection SectionFault
-with_key origin image setting = answer (fault_in (step_of (keys_of origin) 0 setting)) image
+with_key origin image setting = answer (setting_fault (keys_of origin) 0 setting) image
 
 -- the image with an item: the first of the sections that are left, where the item is the word of one, or a key
 abbrev pub with_given : Origin → ImageSection → Setting → Given → List Subsection → Result ImageSection SectionFault
