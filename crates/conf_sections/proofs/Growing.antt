@@ -1,5 +1,5 @@
 -- An image, and what a configuration says, stay within the limits as they grow.
-use Rattle.std.proofs.Common.{◌≡◌, ℕ, zero, suc, ◌<◌, ◌⊎◌, List, ◌∷◌, ◌++◌, [], inl, inr, slice_index_or, arith}
+use Rattle.std.proofs.Common.{◌≡◌, ℕ, zero, suc, ◌<◌, List, ◌∷◌, ◌++◌, [], inl, inr, slice_index_or, arith}
 use Rattle.std.specs.Prelude.{IsSome, Contains, All}
 use Rattle.std.proofs.lemmas.List.Elements.{All-append, All-cons, All-nil, Contains-append_cases}
 use Rattle.conf_keys.specs.declared.conf.Conf.{Conf}

@@ -1,11 +1,10 @@
 -- What an image is, item by item, or its first item that has another key or value.
-use Rattle.std.specs.Prelude.{ℕ, Bool, true, false, List, [], ◌∷◌, ◌++◌, Option, Some, None, Result, Ok, Err, codes, if◌then◌else◌}
+use Rattle.std.specs.Prelude.{ℕ, Bool, true, false, List, [], ◌∷◌, ◌++◌, None, Result, Ok, codes, if◌then◌else◌}
 use Rattle.std.specs.List.{list_any}
 use Rattle.std.specs.Str.{bytes_eq}
 use Rattle.conf_items.specs.declared.items.Given.{Given}
 use Rattle.conf_items.specs.declared.items.Given.TheVariants as given
 use Rattle.conf_items.specs.declared.items.Setting.{Setting}
-use Rattle.conf_items.specs.declared.items.Head.{Head}
 use Rattle.conf_items.specs.declared.outline.Subsection.{Subsection}
 use Rattle.conf_items.specs.declared.outline.TopSection.{TopSection}
 use Rattle.conf_keys.specs.declared.checking.SectionFault.{SectionFault}
