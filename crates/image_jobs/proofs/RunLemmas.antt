@@ -1,6 +1,5 @@
 -- What an answer's lines and changes are, by its kind.
 use Rattle.std.proofs.Common.{◌≡◌, ℕ, [], ◌∷◌, Option, Some, None, Result, Ok, Err, refl, ap}
-
 use Rattle.outside.specs.Files.{Tree}
 use Rattle.answer_lines.specs.Answer.{error_text}
 use Rattle.answer_lines.specs.declared.answer.Answer.{Answer}

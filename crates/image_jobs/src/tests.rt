@@ -104,7 +104,11 @@ fn an_input_is_missing(rt: HostRuntime) -> Result<(), Fail> {
 // Texts whose lines are those of a refusal, or of no image.
 const TEXTS: [(&[u8], u8, &str); 10] = [
     (b"", 0, "built images=0"),
-    (b"config { inputpath = in any { x = { 1, 2 } } }", 0, "built images=0"),
+    (
+        b"config { inputpath = in any { x = { 1, 2 } } }",
+        0,
+        "built images=0",
+    ),
     (
         b"image a.img { hdimage { partition-table-type = none } partition p { size = 10Q } }",
         2,
@@ -173,7 +177,10 @@ fn more_than_is_built_today(rt: HostRuntime) -> Result<(), Fail> {
 fn comments(rt: HostRuntime) -> Result<(), Fail> {
     let alloc = rt.alloc();
     let mut files = files(alloc)?;
-    files.put("c", b"image a.img { hdimage { partition-table-type = none } /* x */ partition p { image = \"p.bin\" } } # y")?;
+    files.put(
+        "c",
+        b"image a.img { hdimage { partition-table-type = none } /* x */ partition p { image = \"p.bin\" } } # y",
+    )?;
     let lines = ["image a.img size=3", "built images=1"];
     build(&rt, alloc, &mut files, 0, &lines)?;
     assert_eq!(rt; files.bytes("a.img"), Some([1, 2, 3].as_slice()));
@@ -183,7 +190,8 @@ fn comments(rt: HostRuntime) -> Result<(), Fail> {
 #[test]
 fn variables_with_and_without_a_value(rt: HostRuntime) -> Result<(), Fail> {
     let alloc = rt.alloc();
-    let text = "image a.img { hdimage { partition-table-type = none } partition p { image = \"${ROOT:-r.img}\" } }";
+    let text =
+        "image a.img { hdimage { partition-table-type = none } partition p { image = \"${ROOT:-r.img}\" } }";
     for (root, byte) in [(Some("x.img"), 8), (None, 7)] {
         let mut files = MemFiles::new(alloc);
         files.put("c", text.as_bytes())?;
@@ -240,7 +248,13 @@ fn no_words(rt: HostRuntime) -> Result<(), Fail> {
     ] {
         let mut out = MemPrinter::new(alloc, 64)?;
         let words = words(alloc, some)?;
-        let answer = run(alloc, &words, &List::new(alloc), &mut files(alloc)?, &mut out);
+        let answer = run(
+            alloc,
+            &words,
+            &List::new(alloc),
+            &mut files(alloc)?,
+            &mut out,
+        );
         assert_eq!(rt; answer.status(), 1);
         assert_eq!(rt; out.kept(0), Some(b"error Usage".as_slice()));
     }
