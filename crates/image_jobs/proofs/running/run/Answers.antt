@@ -16,3 +16,6 @@ returns-in-Err-place-clause-prints g c = λ told. rw (refusal_lines _ c.refuse-i
 
 pub returns-clause-prints : goal.returns-clause-prints
 returns-clause-prints g c = λ told. rw (work_lines _ _ _ _ c.report_built.result c.report_built.ensures.answer) (search rules)
+
+pub returns-in-Err-compose-clause-prints : goal.returns-in-Err-compose-clause-prints
+returns-in-Err-compose-clause-prints g c = λ told. rw (refusal_lines _ c.refuse-in-Err-compose.result c.refuse-in-Err-compose.ensures.refusal) (search rules)
