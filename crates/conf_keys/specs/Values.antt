@@ -8,6 +8,7 @@ use Rattle.std.specs.Str.Parse.{digits_value}
 use Rattle.uuid.specs.Text.{parsed}
 use Rattle.base_fields.specs.declared.spans.TableKind.{TableKind}
 use Rattle.base_fields.specs.declared.spans.TableKind.TheVariants as table
+use Rattle.conf_lexer.specs.Text.{is_space}
 use Rattle.conf_keys.specs.declared.conf.Hole.{Hole}
 
 -- what is found, where it passes
@@ -126,10 +127,6 @@ type_of text =
     else parsed text
 
 -- ---- holes
-
--- space, tab, line feed and carriage return
-abbrev pub is_space : ℕ → Bool
-is_space b = b == 32 || b == 9 || b == 10 || b == 13
 
 -- a text without the white space at its front, and at its end
 abbrev pub front_trimmed : List ℕ → List ℕ

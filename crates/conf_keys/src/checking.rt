@@ -8,6 +8,7 @@ ghost use Rattle.conf_keys.specs.Holes.{with_setting};
 
 use crate::settings::{Section, Shape};
 use crate::values;
+use base_fields::NoMemory;
 use conf_items::{Given, Place, Setting, Value, Word};
 use std::error::Error;
 use std::fmt;
@@ -21,6 +22,17 @@ pub enum SectionFault {
     BadValue { place: Place },
     /// Memory was refused.
     NoMemory,
+}
+
+impl From<NoMemory> for SectionFault {
+    ghost use Rattle.std.specs.Prelude.{◌≡◌};
+    ghost use Rattle.conf_keys.specs.declared.checking.SectionFault.TheVariants.{NoMemory};
+
+    ghost from_gives = { λ _ e. e ≡ NoMemory };
+
+    fn from(_: NoMemory) -> SectionFault {
+        SectionFault::NoMemory
+    }
 }
 
 impl fmt::Display for SectionFault {

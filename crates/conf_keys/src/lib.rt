@@ -16,8 +16,8 @@ pub use conf::{
 };
 pub use partitions::read_partition;
 pub use sections::{
-    check_device, image_head_fault, image_keys, item_fault, read_config, read_flash, read_hd,
-    read_plain, read_sparse,
+    check_device, image_head_fault, image_keys, item_fault, name_text, read_config, read_flash,
+    read_hd, read_plain, read_sparse,
 };
 pub use settings::Section;
 

@@ -35,8 +35,8 @@ fn named_fault(head: &Head) -> Option<SectionFault>
     }
 }
 
-// The text of the name.
-pub(crate) fn name_text(head: &Head) -> &str
+/// The text of a section's name, empty where it has none.
+pub fn name_text(head: &Head) -> &str
     ensures { result.now ≡ name_text head.now }
 {
     match &head.name {

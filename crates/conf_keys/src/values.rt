@@ -4,9 +4,10 @@ ghost use Rattle.std.specs.Prelude.{IsTrue, take, drop};
 ghost use Rattle.std.specs.Char.{digit_value, is_ascii_digit, is_ascii_hexdigit};
 ghost use Rattle.std.specs.Char.{to_ascii_lowercase};
 ghost use Rattle.std.specs.List.{list_all, prefix_len};
+ghost use Rattle.conf_lexer.specs.Text.{is_space};
 ghost use Rattle.conf_keys.specs.Values.{bytes_of, decimal_of, hexadecimal_of, hole_of, is_between};
 ghost use Rattle.conf_keys.specs.Values.{is_enclosed, is_decimal, is_hexadecimal};
-ghost use Rattle.conf_keys.specs.Values.{is_partition_name, is_space, is_word, front_trimmed};
+ghost use Rattle.conf_keys.specs.Values.{is_partition_name, is_word, front_trimmed};
 ghost use Rattle.conf_keys.specs.Values.{end_trimmed, has_needless_zero, number_between, number_of};
 ghost use Rattle.conf_keys.specs.Values.{power_between, sector_of, semicolon_of, size_from};
 ghost use Rattle.conf_keys.specs.Values.{size_of, sizes_of, small_value, table_of, trimmed_size};
@@ -15,6 +16,7 @@ ghost use Rattle.uuid.specs.Text.{parsed};
 
 use crate::conf::Hole;
 use base_fields::TableKind;
+use conf_lexer::is_space_byte;
 use uuid::Uuid;
 
 /// The greatest size of a text, in bytes.
@@ -248,12 +250,6 @@ pub(crate) fn partition_type(text: &str) -> Option<[u8; 16]>
     }
 }
 
-fn is_space(byte: u8) -> bool
-    ensures { result ≡ is_space byte }
-{
-    matches!(byte, b' ' | b'\t' | b'\n' | b'\r')
-}
-
 fn without_front(text: &[u8]) -> &[u8]
     ensures { result.now ≡ front_trimmed text.now }
 {
@@ -264,7 +260,7 @@ fn spaces(text: &[u8]) -> usize
     ensures count { result ≡ prefix_len is_space text.now }
     ensures within { result ≤ length text.now }
 {
-    text.iter().take_while(|byte| is_space(**byte)).count()
+    text.iter().take_while(|byte| is_space_byte(**byte)).count()
 }
 
 fn without_end(text: &[u8]) -> &[u8]
@@ -279,7 +275,7 @@ fn end_spaces(text: &[u8]) -> usize
 {
     text.iter()
         .rev()
-        .take_while(|byte| is_space(**byte))
+        .take_while(|byte| is_space_byte(**byte))
         .count()
 }
 

@@ -3,6 +3,7 @@ ghost use Rattle.conf_lexer.specs.Text.{ends_word, is_letter, is_name_byte, is_s
 
 use crate::tokens::TokenKind;
 
+/// Whether this byte is white space: a space, a tab, a line feed or a carriage return.
 pub fn is_space_byte(b: u8) -> bool
     ensures { result ≡ is_space b }
 {

@@ -38,9 +38,7 @@ fn flash_section(alloc: Global, mut conf: Conf, section: &TopSection) -> Result<
     ensures within { IfOk result IsWithin }
 {
     let flash = read_flash(alloc, &section.head, section.settings.as_slice())?;
-    conf.flashes
-        .push(flash)
-        .map_err(|_| SectionFault::NoMemory)?;
+    conf.flashes.push(flash)?;
     Ok(conf)
 }
 
@@ -50,7 +48,7 @@ fn image_section(alloc: Global, mut conf: Conf, section: &TopSection) -> Result<
     ensures within { IfOk result IsWithin }
 {
     let image = image_of(alloc, section)?;
-    conf.images.push(image).map_err(|_| SectionFault::NoMemory)?;
+    conf.images.push(image)?;
     Ok(conf)
 }
 

@@ -12,7 +12,8 @@ use base_fields::{List, Name};
 use conf_items::{Given, Head, Setting, Subsection, TopSection};
 use conf_keys::{
     HdKeys, ImageSection, Kind, PlainKeys, Section, SectionFault, SparseKeys, check_device,
-    image_head_fault, image_keys, item_fault, read_hd, read_partition, read_plain, read_sparse,
+    image_head_fault, image_keys, item_fault, name_text, read_hd, read_partition, read_plain,
+    read_sparse,
 };
 use std::alloc::Global;
 
@@ -122,7 +123,7 @@ fn of_kind(kind: Kind, mut image: ImageSection) -> Result<ImageSection, SectionF
     ensures answers { Answers (Ok (of_kind kind image)) result }
     ensures within { IfOk result IsImageWithin }
 {
-    image.kinds.push(kind).map_err(|_| SectionFault::NoMemory)?;
+    image.kinds.push(kind)?;
     Ok(image)
 }
 
@@ -150,7 +151,7 @@ fn with_partition(
     ensures within { IfOk result IsImageWithin }
 {
     let keys = read_partition(alloc, &inner.head, inner.settings.as_slice())?;
-    image.parts.push(keys).map_err(|_| SectionFault::NoMemory)?;
+    image.parts.push(keys)?;
     Ok(image)
 }
 
@@ -264,15 +265,6 @@ fn with_items(
 
 // ---- an image
 
-fn name_text(head: &Head) -> &str
-    ensures { result.now ≡ name_text head.now }
-{
-    match &head.name {
-        Some(name) => name.text.text(),
-        None => "",
-    }
-}
-
 // The name of an image, or the fault of its head.
 fn name_of(alloc: Global, head: &Head) -> Result<Name, SectionFault>
     ensures answers { Answers (answer (named_fault head.now) (name_text head.now)) result }
@@ -281,7 +273,7 @@ fn name_of(alloc: Global, head: &Head) -> Result<Name, SectionFault>
     if let Some(fault) = image_head_fault(head) {
         return Err(fault);
     }
-    let name = Name::of(alloc, name_text(head)).map_err(|_| SectionFault::NoMemory)?;
+    let name = Name::of(alloc, name_text(head))?;
     Ok(name)
 }
 
@@ -315,7 +307,7 @@ fn with_keys(
 {
     match origin {
         Origin::Made => {
-            let keys = image_keys(alloc, settings).map_err(|_| SectionFault::NoMemory)?;
+            let keys = image_keys(alloc, settings)?;
             image.size = keys.size;
             image.flashtype = keys.flashtype;
             Ok(image)

@@ -5,7 +5,7 @@ use Rattle.std.proofs.lemmas.List.Elements.{All-append, All-cons, All-nil}
 use Rattle.std.proofs.lemmas.List.Sums.{sum_by-append}
 use Rattle.conf_items.specs.Outline.{deeper_of}
 use Rattle.conf_walk.specs.Stack.{IsOpen, IsStack, Spent, begun, left_of, work_left}
-use Rattle.conf_walk.specs.Walk.{nothing_read, with_text}
+use Rattle.conf_walk.specs.Walk.{most_bytes, nestings, nothing_read, with_text}
 use Rattle.conf_walk.specs.declared.running.OpenText.{OpenText}
 use Rattle.conf_walk.specs.declared.texts.Reading.{Reading}
 use Rattle.conf_walk.specs.declared.texts.Text.{Text}
@@ -37,7 +37,7 @@ empty-stack = record { each = All-nil IsOpen; few = omega arith; deeper = omega 
 pub top-open : (texts : List OpenText) (text : OpenText) (reading : Reading) → IsStack (texts ++ text ∷ []) reading → IsOpen text
 top-open texts text reading stack = All-last IsOpen texts text stack.each
 
-pub top-room : (texts : List OpenText) (text : OpenText) (reading : Reading) → IsStack (texts ++ text ∷ []) reading → deeper_of reading.outline + left_of text ≤ 1048576
+pub top-room : (texts : List OpenText) (text : OpenText) (reading : Reading) → IsStack (texts ++ text ∷ []) reading → deeper_of reading.outline + left_of text ≤ most_bytes
 top-room texts text reading stack =
     let sum = sum-more texts text in
     let deeper = stack.deeper in
@@ -92,14 +92,14 @@ work-includes texts text next reading after less spent =
     omega arith
 
 -- a text that was read comes on top
-pub stack-enters : (texts : List OpenText) (source : Text) (reading : Reading) → IsStack texts reading → length texts < 9 → IsOpen (begun source) → reading.total + length source.bytes ≤ 1048576 → length source.tokens ≤ length source.bytes → IsStack (texts ++ begun source ∷ []) (with_text reading source)
+pub stack-enters : (texts : List OpenText) (source : Text) (reading : Reading) → IsStack texts reading → length texts < nestings → IsOpen (begun source) → reading.total + length source.bytes ≤ most_bytes → length source.tokens ≤ length source.bytes → IsStack (texts ++ begun source ∷ []) (with_text reading source)
 stack-enters texts source reading stack room open-text limit count =
     let sum = sum-more texts (begun source) in
     let many = length-more texts (begun source) in
     let deeper = stack.deeper in
     record { each = All-append IsOpen texts (begun source ∷ []) stack.each (All-one IsOpen (begun source) open-text); few = omega arith; deeper = omega arith; total = limit }
 
-pub work-enters : (texts : List OpenText) (source : Text) (reading : Reading) → reading.total + length source.bytes ≤ 1048576 → length source.tokens ≤ length source.bytes → work_left (texts ++ begun source ∷ []) (with_text reading source) ≤ work_left texts reading + 1
+pub work-enters : (texts : List OpenText) (source : Text) (reading : Reading) → reading.total + length source.bytes ≤ most_bytes → length source.tokens ≤ length source.bytes → work_left (texts ++ begun source ∷ []) (with_text reading source) ≤ work_left texts reading + 1
 work-enters texts source reading limit count =
     let sum = sum-more texts (begun source) in
     let many = length-more texts (begun source) in

@@ -1,5 +1,5 @@
 -- What an answer of the walk says of the texts, and of the counts of the files.
-use Rattle.std.specs.Prelude.{◌≡◌, Result, Ok, Err}
+use Rattle.std.specs.Prelude.{◌≡◌, ℕ, ◌<◌, Result, Ok, Err}
 use Rattle.outside.specs.Counts.{Counts, Rose}
 use Rattle.conf_walk.specs.declared.fault.WalkFault.{WalkFault}
 use Rattle.conf_walk.specs.declared.fault.WalkFault.TheVariants.{Missing, SourceShort, FileFault, NoMemory}
@@ -20,3 +20,8 @@ HasCause before now FileFault = Rose before.faults now.faults
 HasCause before now (Missing name) = Rose before.absences now.absences
 HasCause before now (SourceShort name at) = Rose before.ends now.ends
 HasCause before now other = Unit {0}
+
+-- a byte that lacks is one of so many
+abbrev pub LacksBelow : ℕ → WalkFault → Type 0
+LacksBelow count (SourceShort name at) = at < count
+LacksBelow count other = Unit {0}

@@ -58,7 +58,7 @@ begun source = record { source = source; at = 0; parser = start }
 pub record IsOpen (text : OpenText) : Type 0 where
   pub stands : All (StandsIn text.source.bytes) text.source.tokens
   pub within : text.at ≤ length text.source.tokens
-  pub count : length text.source.tokens ≤ 1048576
+  pub count : length text.source.tokens ≤ most_bytes
   pub depth : text.parser.depth ≤ text.at
 
 -- what was walked leads to where an answer goes on, or to its refusal
@@ -98,9 +98,9 @@ abbrev pub resumed : List Pair → Tree → ℕ → List OpenText → Reading �
 resumed vars file left [] reading = Ok reading
 resumed vars file left (text ∷ above) reading = resumed vars file (left - 1) above reading >>= rest_walked (text_walked vars file left) vars text
 
--- the same of all texts that are open: 8 nestings are left for what the main text includes
+-- the same of all texts that are open: one nesting less is left for what the main text includes
 abbrev pub stack_walked : List Pair → Tree → List OpenText → Reading → Result Reading WalkFault
-stack_walked vars file texts reading = resumed vars file 8 texts reading
+stack_walked vars file texts reading = resumed vars file (nestings - 1) texts reading
 
 -- a text that stands here is walked, and then what is left of the stack
 abbrev pub then_walked : List Pair → Tree → List OpenText → List ℕ → Reading → Result Reading WalkFault

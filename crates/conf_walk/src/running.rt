@@ -3,6 +3,7 @@ ghost use Rattle.std.specs.Prelude.{◌≡◌, ℕ, ◌+◌, ◌≤◌, All, IfE
 ghost use Rattle.conf_items.specs.Outline.{deeper_of};
 ghost use Rattle.conf_lexer.specs.Standing.{StandsIn};
 ghost use Rattle.conf_walk.specs.Stack.{Goes, IsNoFileFault, IsOpen, Leads, Stops, begun, goes_on, left_of, left_then, rest_walked};
+ghost use Rattle.conf_walk.specs.Walk.{most_bytes};
 
 use crate::steps::{Taken, step, take};
 use crate::texts::{Reading, Text, bad_text};
@@ -41,7 +42,7 @@ impl OpenText {
     /// A text of which nothing was walked. Takes no memory.
     pub fn new(source: Text) -> OpenText
         requires stands { All (StandsIn source.bytes) source.tokens }
-        requires count { length source.tokens ≤ 1048576 }
+        requires count { length source.tokens ≤ most_bytes }
         ensures text { result ≡ begun source }
         ensures holds { IsOpen result }
     {
@@ -70,7 +71,7 @@ fn walk_token(
 ) -> Result<Turn, WalkFault>
     requires holds { IsOpen text }
     requires token { slice_get text.source.tokens text.at ≡ Some token }
-    requires room { deeper_of reading.outline + left_of text ≤ 1048576 }
+    requires room { deeper_of reading.outline + left_of text ≤ most_bytes }
     ensures leads { (included : List ℕ → Reading → Result Reading WalkFault) → Leads (rest_walked included vars.now text reading) (goes_on included vars.now) result }
     ensures holds { IfOk result (λ made. IsOpen made.text) }
     ensures goes { IfOk result (Goes text reading) }
@@ -94,7 +95,7 @@ pub fn run_text(
     mut reading: Reading,
 ) -> Result<Stop, WalkFault>
     requires holds { IsOpen text }
-    requires room { deeper_of reading.outline + left_of text ≤ 1048576 }
+    requires room { deeper_of reading.outline + left_of text ≤ most_bytes }
     ensures leads { (included : List ℕ → Reading → Result Reading WalkFault) → Leads (rest_walked included vars.now text reading) (left_then included vars.now) result }
     ensures stops { IfOk result (Stops text reading) }
     ensures fault { IfErr result IsNoFileFault }

@@ -1,12 +1,12 @@
 //! One text: its length, its bytes and its tokens.
-ghost use Rattle.std.specs.Prelude.{◌≡◌, ◌+◌, ◌≤◌, All, IfErr, IfOk, length};
+ghost use Rattle.std.specs.Prelude.{◌≡◌, ◌+◌, ◌-◌, ◌≤◌, All, IfErr, IfOk, length};
 ghost use Rattle.conf_lexer.specs.Standing.{StandsIn};
 ghost use Rattle.conf_lexer.specs.Text.{tokens_of};
 ghost use Rattle.outside.specs.Counts.{NoneFell};
 ghost use Rattle.outside.specs.Files.{IsThere, bytes_of};
-ghost use Rattle.conf_walk.specs.Answers.{Answers, HasCause};
+ghost use Rattle.conf_walk.specs.Answers.{Answers, HasCause, LacksBelow};
 ghost use Rattle.conf_walk.specs.Stack.{HasLength, IsNoFileFault};
-ghost use Rattle.conf_walk.specs.Walk.{in_limit, nothing_read, or_else, refused_by, text_read, with_text};
+ghost use Rattle.conf_walk.specs.Walk.{in_limit, most_bytes, nothing_read, or_else, refused_by, text_read, with_text};
 
 use crate::WalkFault;
 use base_fields::{Bytes, List, Name, NoMemory};
@@ -52,7 +52,7 @@ impl Reading {
 
     /// With one more text. Takes memory.
     pub fn add(self, alloc: Global, text: &Text) -> Result<Reading, NoMemory>
-        requires { self.total + length text.now.bytes ≤ 1048576 }
+        requires { self.total + length text.now.bytes ≤ most_bytes }
         ensures { IfOk result (λ after. after ≡ with_text self text.now) }
     {
         let Reading {
@@ -135,11 +135,12 @@ fn read_bytes<F: Files>(
     name: &str,
     len: u64,
 ) -> Result<Bytes, WalkFault>
-    requires limit { len ≤ 1048576 }
+    requires limit { len ≤ most_bytes }
     requires there { F.told → IsThere (F.file files.old) name.now (len ≡ length (bytes_of (F.file files.old) name.now)) }
     ensures none_fell { NoneFell (F.counts files.old) (F.counts files.new) }
     ensures cause { IfErr result (HasCause (F.counts files.old) (F.counts files.new)) }
     ensures same_files { F.file files.new ≡ F.file files.old }
+    ensures lacks { IfErr result (LacksBelow len) }
     ensures long { IfOk result (λ bytes. length bytes ≡ len) }
     ensures there { F.told → Answers (or_else (F.file files.old name.now) (WalkFault.Missing name.now)) result }
 {
@@ -178,7 +179,8 @@ pub fn read_text<F: Files>(
     ensures none_fell { NoneFell (F.counts files.old) (F.counts files.new) }
     ensures cause { IfErr result (HasCause (F.counts files.old) (F.counts files.new)) }
     ensures same_files { F.file files.new ≡ F.file files.old }
-    ensures limit { IfOk result (λ text. reading.now.total + length text.bytes ≤ 1048576) }
+    ensures limit { IfOk result (λ text. reading.now.total + length text.bytes ≤ most_bytes) }
+    ensures lacks { IfErr result (LacksBelow (most_bytes - reading.now.total)) }
     ensures stands { IfOk result (λ text. All (StandsIn text.bytes) text.tokens) }
     ensures count { IfOk result (λ text. length text.tokens ≤ length text.bytes) }
     ensures answers { F.told → Answers (text_read (F.file files.old) name.now reading.now) result }

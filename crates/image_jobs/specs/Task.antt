@@ -86,10 +86,10 @@ stands_alone texts one = not (bytes_eq one.image one.source) && not (list_any (�
 abbrev pub provided : Bool → OneImage → Option OneImage
 provided passes one = if passes then Some one else None
 
--- the image of a part that is a file, and not the image itself
+-- the image of a part that is a file
 abbrev pub of_part : Request → Conf → ImageSection → PartitionSection → List ℕ → Option OneImage
 of_part request conf image part source =
-    provided (is_plain_part part && not (bytes_eq source image.name) && stands_alone conf.texts (named request conf image part source)) (named request conf image part source)
+    provided (is_plain_part part && stands_alone conf.texts (named request conf image part source)) (named request conf image part source)
 
 -- the image of its only part, where that has an image
 abbrev pub of_only : Request → Conf → ImageSection → PartitionSection → Option OneImage

@@ -156,7 +156,7 @@ fn of_part(
 {
     let one = named(alloc, request, conf, image, part, source)?;
     let texts = conf.texts.as_slice();
-    if is_plain_part(part) && source != image.name.text() && stands_alone(texts, &one) {
+    if is_plain_part(part) && stands_alone(texts, &one) {
         Ok(Some(one))
     } else {
         Ok(None)

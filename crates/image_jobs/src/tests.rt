@@ -1,7 +1,9 @@
+ghost use Rattle.std.specs.Prelude.{None};
+
 use super::*;
 use answer_lines::Answer;
 use base_fields::{List, Name, Pair};
-use outside::{Files, MemFiles, MemPrinter, TrickleFiles};
+use outside::{FileErr, Files, MemFiles, MemPrinter, TrickleFiles, WriteErr};
 use std::alloc::Global;
 use std::process::Abort;
 use std::test::Fail;
@@ -89,6 +91,48 @@ fn the_first_call_on_the_files_fails(rt: HostRuntime) -> Result<(), Fail> {
     build(&rt, rt.alloc(), &mut files, 9, &["error FileFault"])?;
     assert_eq!(rt; files.bytes("a.img"), None);
     Ok(())
+}
+
+/// Files that are said to have 8 bytes each, and end behind 3 of them.
+#[derive(Debug, Drop)]
+struct CutFiles {
+    ends: u64,
+}
+
+impl Files for CutFiles {
+    ghost told = { ⊥ };
+
+    ghost file = { λ _ _. None };
+
+    ghost counts = { λ s. record { faults = 0; absences = 0; ends = s.ends } };
+
+    fn length(&mut self, _name: &str) -> Result<u64, FileErr> {
+        Ok(8)
+    }
+
+    fn read_at(&mut self, _name: &str, off: u64, buf: &mut [u8]) -> Result<usize, FileErr> {
+        if off >= 3 {
+            self.ends = self.ends.saturating_add(1);
+            return Ok(0);
+        }
+        buf[0] = b' ';
+        Ok(1)
+    }
+
+    fn create(&mut self, _name: &str, _len: u64) -> Result<(), WriteErr> {
+        Ok(())
+    }
+
+    fn write_at(&mut self, _name: &str, _off: u64, _bytes: &[u8]) -> Result<(), WriteErr> {
+        Ok(())
+    }
+}
+
+#[test]
+fn a_text_that_ends_early(rt: HostRuntime) -> Result<(), Fail> {
+    let mut files = CutFiles { ends: 0 };
+    let lines = ["error SourceShort name=c at=3"];
+    build(&rt, rt.alloc(), &mut files, 8, &lines)
 }
 
 #[test]
