@@ -1,5 +1,5 @@
 //! One text: its length, its bytes and its tokens.
-ghost use Rattle.std.specs.Prelude.{◌≡◌, ◌+◌, ◌-◌, ◌≤◌, All, IfErr, IfOk, length};
+ghost use Rattle.std.specs.Prelude.{◌≡◌, ℕ, ◌+◌, ◌-◌, ◌≤◌, All, IfErr, IfOk, length};
 ghost use Rattle.conf_lexer.specs.Standing.{StandsIn};
 ghost use Rattle.conf_lexer.specs.Text.{tokens_of};
 ghost use Rattle.outside.specs.Counts.{NoneFell};
@@ -101,6 +101,7 @@ fn length_of<F: Files>(alloc: Global, files: &mut F, name: &str) -> Result<u64, 
     ensures none_fell { NoneFell (F.counts files.old) (F.counts files.new) }
     ensures cause { IfErr result (HasCause (F.counts files.old) (F.counts files.new)) }
     ensures same_files { F.file files.new ≡ F.file files.old }
+    ensures lacks { (count : ℕ) → IfErr result (LacksBelow count) }
     ensures there { F.told → HasLength (F.file files.old) name.now result }
 {
     match files.length(name) {
