@@ -4,7 +4,7 @@ mod rows;
 use crate::*;
 use base_fields::{List, Name, Pair, TableKind};
 use outside::MemFiles;
-use rows::{INCLUDED, Row, Variables};
+use rows::{INCLUDED, Row, Variables, WHOLE};
 use std::alloc::Global;
 use std::process::Abort;
 use std::test::Fail;
@@ -351,5 +351,17 @@ fn a_call_that_fails(rt: HostRuntime) -> Result<(), Fail> {
     files.fail(0)?;
     let found = described(alloc, &mut files, &List::new(alloc))?;
     assert_eq!(rt; found.as_str(), "FileFault");
+    Ok(())
+}
+
+// Under `rt try --test --fail-alloc N` one growth is refused, and this holds of each N for which the
+// files are there.
+#[test]
+fn a_growth_that_is_refused(rt: HostRuntime) -> Result<(), Fail> {
+    let alloc = rt.alloc();
+    let mut files = texts(alloc, WHOLE)?;
+    let vars = List::new(alloc);
+    let found = read_conf(alloc, &mut files, "main", &vars);
+    assert!(rt; matches!(&found, Ok(_) | Err(ConfFault::NoMemory)));
     Ok(())
 }

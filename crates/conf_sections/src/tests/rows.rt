@@ -21,6 +21,15 @@ pub(crate) const INCLUDED: [(&str, &[u8]); 6] = [
     ("open", b"image a {"),
 ];
 
+// A text with a section of each kind.
+pub(crate) const WHOLE: &[u8] = b"config { inputpath = in outputpath = out } \
+    flash f { pebsize = 1 numpebs = 2 } \
+    image a { size = 1 flashtype = f hdimage { include(align) } \
+        partition p { image = \"${ROOT:-r}\" holes = { '(0;1)', '(2;3)' } } } \
+    image b { android-sparse { image = a } } \
+    image c { file { name = d } } \
+    image e { vfat { files = { x, y } z { } } }";
+
 // Variables, a main text, and what is said of it. An @ marks the place of a fault in the main
 // text, and is no part of it.
 pub(crate) type Row = (Variables, &'static [u8], &'static str);
