@@ -1,0 +1,7 @@
+-- lemmas
+pub mod Steps
+pub mod TreesWalked
+pub mod ItemsSaid
+pub mod TreesFound
+pub mod Splicing
+pub mod TextsSaid

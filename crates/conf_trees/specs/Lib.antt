@@ -1,0 +1,5 @@
+-- definitions that contracts cite
+pub mod Walked
+pub mod Said
+pub mod Spliced
+pub mod Laws

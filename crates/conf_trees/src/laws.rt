@@ -1,0 +1,34 @@
+ghost use Rattle.conf_trees.specs.Laws.{AddsItems, HasTree, SaidTexts, TextsSay, WalksTree};
+
+/// Nothing is done: the contract is the law that a text is read as its tree.
+///
+/// Where the tokens of a text have values and a tree spells them, the walk of the tokens is the walk
+/// of the tree, from anything that was read before, and with the same refusal where the walk of a
+/// text that is included refuses. And each text whose walk doesn't refuse is such a text.
+#[tactic(auto, using(crate::proofs::TreesWalked::walks_tree, crate::proofs::TreesFound::has_tree))]
+pub fn texts_walk_as_trees()
+    ensures walks { WalksTree }
+    ensures tree { HasTree }
+{}
+
+/// Nothing is done: the contract is the law of what a tree without includes says.
+///
+/// Its walk adds its items to those at the top: each option, and each section with the list of its
+/// items and the sections inside. In these lists a section stands as its word without a value, and of
+/// one that is deeper than two nothing else is kept.
+#[tactic(auto, using(crate::proofs::ItemsSaid::adds_items))]
+pub fn trees_say_their_items()
+    ensures { AddsItems }
+{}
+
+/// Nothing is done: the contract is the law of what the texts of a configuration say.
+///
+/// They say the items of one tree without includes: that of the main text, with the items of each
+/// text in the place of its include, in whatever section that stands and so on in turn. Such a tree is
+/// there, and has the names of the texts that were read, where the reading doesn't refuse. Where one is
+/// there, nested no deeper than allowed, and the texts aren't too long in all, the reading says it.
+#[tactic(auto, using(crate::proofs::TextsSaid::texts_say, crate::proofs::TextsSaid::said_texts))]
+pub fn texts_say_a_tree()
+    ensures read { TextsSay }
+    ensures said { SaidTexts }
+{}

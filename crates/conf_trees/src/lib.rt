@@ -1,0 +1,7 @@
+//! What the texts of a configuration say: laws which show that the walk of a text, token by token, is
+//! the reading of the tree that spells it.
+#![tactic(auto)]
+
+mod laws;
+
+pub use laws::{texts_say_a_tree, texts_walk_as_trees, trees_say_their_items};
