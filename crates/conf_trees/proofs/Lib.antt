@@ -5,3 +5,4 @@ pub mod ItemsSaid
 pub mod TreesFound
 pub mod Splicing
 pub mod TextsSaid
+pub mod Refusing

@@ -63,11 +63,11 @@ kept_apart o None ran e = absurd (cc)
 kept_apart o (Some after) ran e = (after, refl, e)
 
 -- the first move, and those behind it
-apart : (m : Option Move) (rest : Parser → Option Ran) (ran : Ran) → behind_move m rest ≡ Some ran → (move : Move) × (m ≡ Some move) × (after : Ran) × (rest move.parser ≡ Some after) × (kept move.output (Some after) ≡ Some ran)
+pub apart : (m : Option Move) (rest : Parser → Option Ran) (ran : Ran) → behind_move m rest ≡ Some ran → (move : Move) × (m ≡ Some move) × (after : Ran) × (rest move.parser ≡ Some after) × (kept move.output (Some after) ≡ Some ran)
 apart None rest ran e = absurd (cc)
 apart (Some move) rest ran e = let k = kept_apart move.output (rest move.parser) ran e in (move, refl, k.0, k.1, k.2)
 
-kept_parser : (o : Output) (after ran : Ran) → kept o (Some after) ≡ Some ran → after.parser ≡ ran.parser
+pub kept_parser : (o : Output) (after ran : Ran) → kept o (Some after) ≡ Some ran → after.parser ≡ ran.parser
 kept_parser output.Nothing after ran e = ap (λ r. r.parser) (ran_same after ran e)
 kept_parser o after ran e = ap (λ r. r.parser) (ran_same (record { outputs = o ∷ after.outputs; parser = after.parser }) ran e)
 

@@ -1,5 +1,5 @@
 -- The laws: the walk of a text is the walk of its tree.
-use Rattle.std.specs.Prelude.{◌≡◌, ℕ, ◌≤◌, List, [], ◌++◌, Result, Ok}
+use Rattle.std.specs.Prelude.{◌≡◌, ℕ, ◌≤◌, true, List, [], ◌∷◌, ◌++◌, length, Result, Ok, Err}
 use Rattle.base_fields.specs.declared.names.Pair.{Pair}
 use Rattle.outside.specs.Files.{Tree}
 use Rattle.conf_lexer.specs.declared.tokens.Token.{Token}
@@ -7,8 +7,10 @@ use Rattle.conf_items.specs.Grammar.{start}
 use Rattle.conf_items.specs.declared.grammar.Lexeme.{Lexeme}
 use Rattle.conf_items.specs.declared.outline.OpenSections.TheVariants.{Nothing}
 use Rattle.conf_grammar.specs.Trees.{Items, Spells}
+use Rattle.conf_grammar.specs.Laws.{is_of}
 use Rattle.conf_walk.specs.Walk.{most_bytes, nestings, texts_of, tokens_walked}
 use Rattle.conf_walk.specs.declared.fault.WalkFault.{WalkFault}
+use Rattle.conf_walk.specs.declared.fault.WalkFault.TheVariants.{BadText}
 use Rattle.conf_walk.specs.declared.texts.Reading.{Reading}
 use Rattle.conf_walk.specs.declared.texts.Text.{Text}
 use Rattle.conf_walk.specs.declared.walking.Texts.{Texts}
@@ -35,3 +37,19 @@ TextsSay = (vars : List Pair) (file : Tree) (name : List ℕ) (texts : Texts) �
 -- what such a tree says is read, where the texts aren't too long
 abbrev pub SaidTexts : Type 0
 SaidTexts = (vars : List Pair) (file : Tree) (name : List ℕ) (u : Items) (names : List (List ℕ)) → Says vars file nestings name [] u names → size_of file names ≤ most_bytes → texts_of vars file name ≡ Ok (record { items = items_of u; names = names })
+
+-- each text that is included is read
+abbrev pub AlwaysReads : (List ℕ → Reading → Result Reading WalkFault) → Type 0
+AlwaysReads included = (name : List ℕ) (reading : Reading) → (after : Reading) × (included name reading ≡ Ok after)
+
+-- a text of the grammar begins so
+abbrev pub BeginsText : List Lexeme → Type 0
+BeginsText front = (t : Items) × (more : List Lexeme) × (Spells t (front ++ more))
+
+-- the walk refuses a text at the first token with which no text of the grammar goes on, whatever its value
+abbrev pub RefusesToken : Type 0
+RefusesToken = (vars : List Pair) (text : Text) (front : List Token) (token : Token) (behind : List Token) (fs : List Lexeme) (l : Lexeme) → LexemesOf vars text front fs → is_of token.kind l ≡ true → BeginsText fs → (BeginsText (fs ++ l ∷ []) → ⊥) → (included : List ℕ → Reading → Result Reading WalkFault) → AlwaysReads included → (reading : Reading) → tokens_walked included vars text (front ++ token ∷ behind) start reading ≡ Err (BadText text.name token.span.at)
+
+-- and at its length, where it only begins one
+abbrev pub RefusesEnd : Type 0
+RefusesEnd = (vars : List Pair) (text : Text) (tokens : List Token) (ls : List Lexeme) → LexemesOf vars text tokens ls → BeginsText ls → ((t : Items) → Spells t ls → ⊥) → (included : List ℕ → Reading → Result Reading WalkFault) → AlwaysReads included → (reading : Reading) → tokens_walked included vars text tokens start reading ≡ Err (BadText text.name (length text.bytes))

@@ -1,4 +1,4 @@
-ghost use Rattle.conf_trees.specs.Laws.{AddsItems, HasTree, SaidTexts, TextsSay, WalksTree};
+ghost use Rattle.conf_trees.specs.Laws.{AddsItems, HasTree, RefusesEnd, RefusesToken, SaidTexts, TextsSay, WalksTree};
 
 /// Nothing is done: the contract is the law that a text is read as its tree.
 ///
@@ -31,4 +31,15 @@ pub fn trees_say_their_items()
 pub fn texts_say_a_tree()
     ensures read { TextsSay }
     ensures said { SaidTexts }
+{}
+
+/// Nothing is done: the contract is the law of the texts that no tree spells.
+///
+/// Where each text that is included is read, the walk refuses such a text at the start of the first
+/// token with which no text of the grammar goes on, whatever that token's value, if any. Where the
+/// tokens only begin a text, it refuses at the text's length.
+#[tactic(auto, using(crate::proofs::Refusing::refuses_token, crate::proofs::Refusing::refuses_end))]
+pub fn other_texts_are_refused()
+    ensures token { RefusesToken }
+    ensures end { RefusesEnd }
 {}

@@ -4,4 +4,6 @@
 
 mod laws;
 
-pub use laws::{texts_say_a_tree, texts_walk_as_trees, trees_say_their_items};
+pub use laws::{
+    other_texts_are_refused, texts_say_a_tree, texts_walk_as_trees, trees_say_their_items,
+};
