@@ -15,7 +15,7 @@ use Rattle.conf_walk.specs.Walk.{◌>>=◌}
 use Rattle.conf_walk.specs.declared.fault.WalkFault.{WalkFault}
 use Rattle.conf_walk.specs.declared.texts.Reading.{Reading}
 use Rattle.conf_trees.specs.Said.{HasNoInclude, items_of, settings_of, subsections_of}
-use Rattle.conf_trees.specs.Walked.{tree_walked, with_outline}
+use Rattle.conf_trees.specs.Walked.{Walk, tree_walked, with_outline}
 use Rattle.conf_trees.specs.Laws.{AddsItems}
 
 -- what a tree makes of an outline, where a text in the place of an include adds nothing
@@ -25,7 +25,7 @@ outlined (IncludeThen name rest) outline = outlined rest outline
 outlined (OptionThen setting rest) outline = outlined rest (with_setting outline setting)
 outlined (SectionThen head inside rest) outline = outlined rest (closed (outlined inside (opened outline head)))
 
-pub plain_walked : (included : List ℕ → Reading → Result Reading WalkFault) (t : Items) → HasNoInclude t → (reading : Reading) → tree_walked included t reading ≡ Ok (with_outline reading (outlined t reading.outline))
+pub plain_walked : (included : Walk) (t : Items) → HasNoInclude t → (reading : Reading) → tree_walked included t reading ≡ Ok (with_outline reading (outlined t reading.outline))
 plain_walked included NoItem h reading = refl
 plain_walked included (IncludeThen name rest) h reading = absurd h
 plain_walked included (OptionThen setting rest) h reading = plain_walked included rest h (with_outline reading (with_setting reading.outline setting))

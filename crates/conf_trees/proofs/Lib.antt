@@ -6,3 +6,4 @@ pub mod TreesFound
 pub mod Splicing
 pub mod TextsSaid
 pub mod Refusing
+pub mod SaidOnce

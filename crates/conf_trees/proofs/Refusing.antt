@@ -19,12 +19,12 @@ use Rattle.conf_walk.specs.declared.fault.WalkFault.{WalkFault}
 use Rattle.conf_walk.specs.declared.fault.WalkFault.TheVariants.{BadText, Unset}
 use Rattle.conf_walk.specs.declared.texts.Reading.{Reading}
 use Rattle.conf_walk.specs.declared.texts.Text.{Text}
-use Rattle.conf_trees.specs.Walked.{LexemesOf, with_outline}
+use Rattle.conf_trees.specs.Walked.{LexemesOf, Walk, with_outline}
 use Rattle.conf_trees.specs.Laws.{AlwaysReads, BeginsText, RefusesEnd, RefusesToken}
 use Rattle.conf_trees.proofs.Steps.{leads}
 use Rattle.conf_trees.proofs.TreesWalked.{apart, kept_parser}
 
-taken_reads : (included : List ℕ → Reading → Result Reading WalkFault) → AlwaysReads included → (o : Output) (reading : Reading) → (after : Reading) × (taken included o reading ≡ Ok after)
+taken_reads : (included : Walk) → AlwaysReads included → (o : Output) (reading : Reading) → (after : Reading) × (taken included o reading ≡ Ok after)
 taken_reads included reads output.Nothing reading = (reading, refl)
 taken_reads included reads (output.Setting setting) reading = (with_outline reading (with_setting reading.outline setting), refl)
 taken_reads included reads (output.Open head) reading = (with_outline reading (opened reading.outline head), refl)
@@ -32,7 +32,7 @@ taken_reads included reads output.Close reading = (with_outline reading (closed 
 taken_reads included reads (output.Include name) reading = reads name.text reading
 
 -- the walk of tokens that are taken leads to those behind them
-front_walked : (included : List ℕ → Reading → Result Reading WalkFault) → AlwaysReads included → (vars : List Pair) (text : Text) (front : List Token) (fs : List Lexeme) (parser : Parser) (ran : Ran) → LexemesOf vars text front fs → run parser fs ≡ Some ran →
+front_walked : (included : Walk) → AlwaysReads included → (vars : List Pair) (text : Text) (front : List Token) (fs : List Lexeme) (parser : Parser) (ran : Ran) → LexemesOf vars text front fs → run parser fs ≡ Some ran →
     (behind : List Token) (reading : Reading) → (after : Reading) × (tokens_walked included vars text (front ++ behind) parser reading ≡ tokens_walked included vars text behind ran.parser after)
 front_walked included reads vars text [] [] parser ran h e behind reading =
     let same : record { outputs = []; parser = parser } ≡ ran = cc in

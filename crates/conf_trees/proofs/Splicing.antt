@@ -9,7 +9,7 @@ use Rattle.conf_walk.specs.declared.fault.WalkFault.{WalkFault}
 use Rattle.conf_walk.specs.declared.texts.Reading.{Reading}
 use Rattle.conf_trees.specs.Said.{HasNoInclude}
 use Rattle.conf_trees.specs.Spliced.{Spliced, joined, size_of}
-use Rattle.conf_trees.specs.Walked.{tree_walked, with_outline}
+use Rattle.conf_trees.specs.Walked.{Walk, tree_walked, with_outline}
 use Rattle.conf_trees.proofs.ItemsSaid.{outlined}
 use Rattle.conf_trees.proofs.TreesFound.{bind_ok, ok_same}
 
@@ -27,7 +27,7 @@ joined_no_include (SectionThen head inside rest) u h k = (h.0, joined_no_include
 
 -- ---- what was read is what a spliced tree says
 
-pub spliced_read : (Stands : List ℕ → List (List ℕ) → Items → List (List ℕ) → Type 0) (included : List ℕ → Reading → Result Reading WalkFault) →
+pub spliced_read : (Stands : List ℕ → List (List ℕ) → Items → List (List ℕ) → Type 0) (included : Walk) →
     ((name : List ℕ) (reading after : Reading) → included name reading ≡ Ok after → (u : Items) × (Stands name reading.names u after.names) × (HasNoInclude u) × (after.outline ≡ outlined u reading.outline)) →
     (t : Items) (reading after : Reading) → tree_walked included t reading ≡ Ok after → (u : Items) × (Spliced Stands t reading.names u after.names) × (HasNoInclude u) × (after.outline ≡ outlined u reading.outline)
 spliced_read Stands included stands NoItem reading after e =
@@ -77,7 +77,7 @@ spliced_grows Stands file grows (SectionThen head inside rest) before after u h 
     let second : size_of file h.2 ≤ size_of file after = spliced_grows Stands file grows rest h.2 after h.1 h.4 in
     omega arith
 
-pub spliced_said : (Stands : List ℕ → List (List ℕ) → Items → List (List ℕ) → Type 0) (file : Tree) (most : ℕ) (included : List ℕ → Reading → Result Reading WalkFault) →
+pub spliced_said : (Stands : List ℕ → List (List ℕ) → Items → List (List ℕ) → Type 0) (file : Tree) (most : ℕ) (included : Walk) →
     ((name : List ℕ) (before after : List (List ℕ)) (u : Items) → Stands name before u after → size_of file before ≤ size_of file after) →
     ((name : List ℕ) (before after : List (List ℕ)) (u : Items) → Stands name before u after → size_of file after ≤ most → (outline : Outline) → included name (read_of file before outline) ≡ Ok (read_of file after (outlined u outline))) →
     (t : Items) (before after : List (List ℕ)) (u : Items) → Spliced Stands t before u after → size_of file after ≤ most → (outline : Outline) → tree_walked included t (read_of file before outline) ≡ Ok (read_of file after (outlined u outline))

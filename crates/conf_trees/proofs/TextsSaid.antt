@@ -17,11 +17,11 @@ use Rattle.conf_walk.specs.declared.fault.WalkFault.TheVariants.{BadText, Missin
 use Rattle.conf_walk.specs.declared.texts.Reading.{Reading}
 use Rattle.conf_walk.specs.declared.texts.Text.{Text}
 use Rattle.conf_walk.specs.declared.walking.Texts.{Texts}
-use Rattle.conf_trees.specs.Laws.{SaidTexts, TextsSay}
+use Rattle.conf_trees.specs.Laws.{SaidTexts, TextStands, TextsSay, TreeStands}
 use Rattle.conf_trees.specs.Said.{HasNoInclude}
-use Rattle.conf_trees.specs.Spliced.{IsTextOf, Says, Spliced, size_of}
-use Rattle.conf_trees.specs.Walked.{tree_walked, with_outline}
-use Rattle.conf_trees.proofs.ItemsSaid.{at_top, outlined}
+use Rattle.conf_trees.specs.Spliced.{IsTextOf, Outlines, Says, Spliced, size_of}
+use Rattle.conf_trees.specs.Walked.{Walk, tree_walked, with_outline}
+use Rattle.conf_trees.proofs.ItemsSaid.{at_top, outlined, plain_walked}
 use Rattle.conf_trees.proofs.Splicing.{read_of, spliced_grows, spliced_read, spliced_said}
 use Rattle.conf_trees.proofs.TreesFound.{bind_ok, has_tree, ok_same, or_else_ok, refused_ok, when_ok}
 use Rattle.conf_trees.proofs.TreesWalked.{walks_tree}
@@ -55,7 +55,7 @@ text_says : (vars : List Pair) (file : Tree) (left : ℕ) (name : List ℕ) (rea
 unfolding text_walked Says
 text_says vars file zero name reading after e = absurd (cc)
 text_says vars file (suc left) name reading after e =
-    let included : List ℕ → Reading → Result Reading WalkFault = text_walked vars file left in
+    let included : Walk = text_walked vars file left in
     let both = bind_ok (text_read file name reading) (λ text. tokens_walked included vars text text.tokens start (with_text reading text)) after e in
     let text : Text = both.0 in
     let is = (text_found file name reading text both.1).0 in
@@ -65,13 +65,26 @@ text_says vars file (suc left) name reading after e =
     let names : Spliced (Says vars file left) found.1 (reading.names ++ name ∷ []) tree.0 after.names = subst (λ n. Spliced (Says vars file left) found.1 (reading.names ++ n ∷ []) tree.0 after.names) is.2 tree.1 in
     (tree.0, (text, found.1, is, (found.0, found.2, found.3), names), tree.2, tree.3)
 
+outlines : (u : Items) (reading after : Reading) → HasNoInclude u → after.outline ≡ outlined u reading.outline → Outlines u reading after
+outlines u reading after h e = (h, λ included. plain_walked included u h reading ∙ ap (λ o. Ok (with_outline reading o)) (sym e))
+
+pub text_stands : TextStands
+text_stands vars file left name reading after e =
+    let said = text_says vars file left name reading after e in
+    (said.0, said.1, outlines said.0 reading after said.2 said.3)
+
+pub tree_stands : TreeStands
+tree_stands vars file left t reading after e =
+    let said = spliced_read (Says vars file left) (text_walked vars file left) (text_says vars file left) t reading after e in
+    (said.0, said.1, outlines said.0 reading after said.2 said.3)
+
 -- ---- the count of the bytes
 
 record Counted (file : Tree) (reading : Reading) : Type 0 where
   total : reading.total ≡ size_of file reading.names
   low : reading.total ≤ most_bytes
 
-tree_counted : (file : Tree) (included : List ℕ → Reading → Result Reading WalkFault) → ((name : List ℕ) (reading after : Reading) → included name reading ≡ Ok after → Counted file reading → Counted file after) →
+tree_counted : (file : Tree) (included : Walk) → ((name : List ℕ) (reading after : Reading) → included name reading ≡ Ok after → Counted file reading → Counted file after) →
     (t : Items) (reading after : Reading) → tree_walked included t reading ≡ Ok after → Counted file reading → Counted file after
 tree_counted file included counts NoItem reading after e h = subst (Counted file) (ok_same reading after e) h
 tree_counted file included counts (IncludeThen name rest) reading after e h =
@@ -95,7 +108,7 @@ text_counted : (vars : List Pair) (file : Tree) (left : ℕ) (name : List ℕ) (
 unfolding text_walked
 text_counted vars file zero name reading after e h = absurd (cc)
 text_counted vars file (suc left) name reading after e h =
-    let included : List ℕ → Reading → Result Reading WalkFault = text_walked vars file left in
+    let included : Walk = text_walked vars file left in
     let both = bind_ok (text_read file name reading) (λ text. tokens_walked included vars text text.tokens start (with_text reading text)) after e in
     let text : Text = both.0 in
     let is = text_found file name reading text both.1 in
@@ -156,7 +169,7 @@ text_said : (vars : List Pair) (file : Tree) (left : ℕ) (name : List ℕ) (bef
 unfolding text_walked Says
 text_said vars file zero name before after u h low outline = absurd h
 text_said vars file (suc left) name before after u h low outline =
-    let included : List ℕ → Reading → Result Reading WalkFault = text_walked vars file left in
+    let included : Walk = text_walked vars file left in
     let grows : (n : List ℕ) (b a : List (List ℕ)) (v : Items) → Says vars file left n b v a → size_of file b ≤ size_of file a = λ n b a v s. says_grows vars file left n b a v s in
     let rises : size_of file (before ++ name ∷ []) ≤ size_of file after = spliced_grows (Says vars file left) file grows h.1 (before ++ name ∷ []) after u h.4 in
     let there : text_read file name (read_of file before outline) ≡ Ok h.0 = text_there file name before outline h.0 h.2 (omega arith) in

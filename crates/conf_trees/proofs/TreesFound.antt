@@ -17,7 +17,7 @@ use Rattle.conf_walk.specs.declared.fault.WalkFault.{WalkFault}
 use Rattle.conf_walk.specs.declared.fault.WalkFault.TheVariants.{BadText, Unset}
 use Rattle.conf_walk.specs.declared.texts.Reading.{Reading}
 use Rattle.conf_walk.specs.declared.texts.Text.{Text}
-use Rattle.conf_trees.specs.Walked.{HasLexeme, LexemesOf}
+use Rattle.conf_trees.specs.Walked.{HasLexeme, LexemesOf, Walk}
 use Rattle.conf_trees.specs.Laws.{HasTree}
 
 -- ---- what was passed where the answer is no refusal
@@ -59,7 +59,7 @@ kept_some : (o : Output) (ran : Ran) → (after : Ran) × (kept o (Some ran) ≡
 kept_some output.Nothing ran = (ran, refl, refl)
 kept_some o ran = (record { outputs = o ∷ ran.outputs; parser = ran.parser }, refl, refl)
 
-tokens_ok : (included : List ℕ → Reading → Result Reading WalkFault) (vars : List Pair) (text : Text) (tokens : List Token) (parser : Parser) (reading after : Reading) → tokens_walked included vars text tokens parser reading ≡ Ok after →
+tokens_ok : (included : Walk) (vars : List Pair) (text : Text) (tokens : List Token) (parser : Parser) (reading after : Reading) → tokens_walked included vars text tokens parser reading ≡ Ok after →
     (ls : List Lexeme) × (LexemesOf vars text tokens ls) × (ran : Ran) × (run parser ls ≡ Some ran) × (may_end ran.parser ≡ true)
 tokens_ok included vars text [] parser reading after e =
     let ends = when_ok (may_end parser) reading after _ e in

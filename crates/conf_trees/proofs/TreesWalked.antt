@@ -16,7 +16,7 @@ use Rattle.conf_walk.specs.Walk.{◌>>=◌, stepped, taken, tokens_walked}
 use Rattle.conf_walk.specs.declared.fault.WalkFault.{WalkFault}
 use Rattle.conf_walk.specs.declared.texts.Reading.{Reading}
 use Rattle.conf_walk.specs.declared.texts.Text.{Text}
-use Rattle.conf_trees.specs.Walked.{LexemesOf, tree_walked, with_outline}
+use Rattle.conf_trees.specs.Walked.{LexemesOf, Walk, tree_walked, with_outline}
 use Rattle.conf_trees.specs.Laws.{WalksTree}
 use Rattle.conf_trees.proofs.Steps.{leads}
 
@@ -29,19 +29,19 @@ bind_assoc (Ok a) f g = refl
 bind_assoc (Err e) f g = refl
 
 -- what was made whole, taken one after another
-abbrev pub outputs_walked : (List ℕ → Reading → Result Reading WalkFault) → List Output → Reading → Result Reading WalkFault
+abbrev pub outputs_walked : Walk → List Output → Reading → Result Reading WalkFault
 outputs_walked included [] reading = Ok reading
 outputs_walked included (o ∷ os) reading = taken included o reading >>= outputs_walked included os
 
 -- ---- outputs of a tree
 
-outputs_joined : (included : List ℕ → Reading → Result Reading WalkFault) (os more : List Output) (reading : Reading) → outputs_walked included (os ++ more) reading ≡ (outputs_walked included os reading >>= outputs_walked included more)
+outputs_joined : (included : Walk) (os more : List Output) (reading : Reading) → outputs_walked included (os ++ more) reading ≡ (outputs_walked included os reading >>= outputs_walked included more)
 outputs_joined included [] more reading = refl
 outputs_joined included (o ∷ os) more reading =
     bind_same (taken included o reading) (outputs_walked included (os ++ more)) (λ r. outputs_walked included os r >>= outputs_walked included more) (λ r. outputs_joined included os more r)
     ∙ sym (bind_assoc (taken included o reading) (outputs_walked included os) (outputs_walked included more))
 
-tree_outputs : (included : List ℕ → Reading → Result Reading WalkFault) (t : Items) (reading : Reading) → outputs_walked included (outputs_of t) reading ≡ tree_walked included t reading
+tree_outputs : (included : Walk) (t : Items) (reading : Reading) → outputs_walked included (outputs_of t) reading ≡ tree_walked included t reading
 tree_outputs included NoItem reading = refl
 tree_outputs included (IncludeThen name rest) reading = bind_same (included name.text reading) (outputs_walked included (outputs_of rest)) (tree_walked included rest) (λ r. tree_outputs included rest r)
 tree_outputs included (OptionThen setting rest) reading = tree_outputs included rest (with_outline reading (with_setting reading.outline setting))
@@ -71,11 +71,11 @@ pub kept_parser : (o : Output) (after ran : Ran) → kept o (Some after) ≡ Som
 kept_parser output.Nothing after ran e = ap (λ r. r.parser) (ran_same after ran e)
 kept_parser o after ran e = ap (λ r. r.parser) (ran_same (record { outputs = o ∷ after.outputs; parser = after.parser }) ran e)
 
-kept_walked : (included : List ℕ → Reading → Result Reading WalkFault) (o : Output) (after ran : Ran) (reading : Reading) → kept o (Some after) ≡ Some ran → (taken included o reading >>= outputs_walked included after.outputs) ≡ outputs_walked included ran.outputs reading
+kept_walked : (included : Walk) (o : Output) (after ran : Ran) (reading : Reading) → kept o (Some after) ≡ Some ran → (taken included o reading >>= outputs_walked included after.outputs) ≡ outputs_walked included ran.outputs reading
 kept_walked included output.Nothing after ran reading e = ap (λ r. outputs_walked included r.outputs reading) (ran_same after ran e)
 kept_walked included o after ran reading e = ap (λ r. outputs_walked included r.outputs reading) (ran_same (record { outputs = o ∷ after.outputs; parser = after.parser }) ran e)
 
-pub tokens_ran : (included : List ℕ → Reading → Result Reading WalkFault) (vars : List Pair) (text : Text) (tokens : List Token) (ls : List Lexeme) (parser : Parser) (reading : Reading) (ran : Ran) → LexemesOf vars text tokens ls → run parser ls ≡ Some ran → may_end ran.parser ≡ true →
+pub tokens_ran : (included : Walk) (vars : List Pair) (text : Text) (tokens : List Token) (ls : List Lexeme) (parser : Parser) (reading : Reading) (ran : Ran) → LexemesOf vars text tokens ls → run parser ls ≡ Some ran → may_end ran.parser ≡ true →
     tokens_walked included vars text tokens parser reading ≡ outputs_walked included ran.outputs reading
 tokens_ran included vars text [] [] parser reading ran h e ends =
     let same : record { outputs = []; parser = parser } ≡ ran = ran_same _ _ e in

@@ -1,5 +1,5 @@
--- The laws: the walk of a text is the walk of its tree.
-use Rattle.std.specs.Prelude.{◌≡◌, ℕ, ◌≤◌, true, List, [], ◌∷◌, ◌++◌, length, Result, Ok, Err}
+-- The laws: the walk of a text is the walk of its tree, and what all texts say is what one tree says.
+use Rattle.std.specs.Prelude.{◌≡◌, ℕ, ◌≤◌, true, List, [], ◌∷◌, ◌++◌, length, Ok, Err}
 use Rattle.base_fields.specs.declared.names.Pair.{Pair}
 use Rattle.outside.specs.Files.{Tree}
 use Rattle.conf_lexer.specs.declared.tokens.Token.{Token}
@@ -8,38 +8,33 @@ use Rattle.conf_items.specs.declared.grammar.Lexeme.{Lexeme}
 use Rattle.conf_items.specs.declared.outline.OpenSections.TheVariants.{Nothing}
 use Rattle.conf_grammar.specs.Trees.{Items, Spells}
 use Rattle.conf_grammar.specs.Laws.{is_of}
-use Rattle.conf_walk.specs.Walk.{most_bytes, nestings, texts_of, tokens_walked}
-use Rattle.conf_walk.specs.declared.fault.WalkFault.{WalkFault}
+use Rattle.conf_walk.specs.Walk.{most_bytes, nestings, text_walked, texts_of, tokens_walked}
 use Rattle.conf_walk.specs.declared.fault.WalkFault.TheVariants.{BadText}
 use Rattle.conf_walk.specs.declared.texts.Reading.{Reading}
 use Rattle.conf_walk.specs.declared.texts.Text.{Text}
 use Rattle.conf_walk.specs.declared.walking.Texts.{Texts}
 use Rattle.conf_trees.specs.Said.{HasNoInclude, items_of}
-use Rattle.conf_trees.specs.Spliced.{Says, size_of}
-use Rattle.conf_trees.specs.Walked.{LexemesOf, tree_walked, with_outline}
+use Rattle.conf_trees.specs.Spliced.{Outlines, Says, Spliced, size_of}
+use Rattle.conf_trees.specs.Walked.{LexemesOf, Walk, tree_walked, with_outline}
+
+-- ---- one text
 
 -- the walk of a text that a tree spells is the walk of the tree, whatever is included and whatever was read before
 abbrev pub WalksTree : Type 0
-WalksTree = (vars : List Pair) (text : Text) (tokens : List Token) (ls : List Lexeme) (t : Items) → LexemesOf vars text tokens ls → Spells t ls → (included : List ℕ → Reading → Result Reading WalkFault) (reading : Reading) → tokens_walked included vars text tokens start reading ≡ tree_walked included t reading
-
--- a tree without includes adds the items that it says, where no section is open, and nothing else
-abbrev pub AddsItems : Type 0
-AddsItems = (t : Items) → HasNoInclude t → (included : List ℕ → Reading → Result Reading WalkFault) (reading : Reading) → reading.outline.inside ≡ Nothing → tree_walked included t reading ≡ Ok (with_outline reading (record { items = reading.outline.items ++ items_of t; inside = Nothing }))
+WalksTree = (vars : List Pair) (text : Text) (tokens : List Token) (ls : List Lexeme) (t : Items) → LexemesOf vars text tokens ls → Spells t ls → (included : Walk) (reading : Reading) → tokens_walked included vars text tokens start reading ≡ tree_walked included t reading
 
 -- the tokens of a text whose walk doesn't refuse have values, and a tree spells them
 abbrev pub HasTree : Type 0
-HasTree = (vars : List Pair) (text : Text) (tokens : List Token) (included : List ℕ → Reading → Result Reading WalkFault) (reading after : Reading) → tokens_walked included vars text tokens start reading ≡ Ok after → (ls : List Lexeme) × (t : Items) × (LexemesOf vars text tokens ls) × (Spells t ls)
+HasTree = (vars : List Pair) (text : Text) (tokens : List Token) (included : Walk) (reading after : Reading) → tokens_walked included vars text tokens start reading ≡ Ok after → (ls : List Lexeme) × (t : Items) × (LexemesOf vars text tokens ls) × (Spells t ls)
 
--- the texts of a configuration say the items of one tree without includes: that of the main text, spliced
-abbrev pub TextsSay : Type 0
-TextsSay = (vars : List Pair) (file : Tree) (name : List ℕ) (texts : Texts) → texts_of vars file name ≡ Ok texts → (u : Items) × (Says vars file nestings name [] u texts.names) × (HasNoInclude u) × (texts.items ≡ items_of u) × (size_of file texts.names ≤ most_bytes)
+-- a tree without includes adds the items that it says, where no section is open, and nothing else
+abbrev pub AddsItems : Type 0
+AddsItems = (t : Items) → HasNoInclude t → (included : Walk) (reading : Reading) → reading.outline.inside ≡ Nothing → tree_walked included t reading ≡ Ok (with_outline reading (record { items = reading.outline.items ++ items_of t; inside = Nothing }))
 
--- what such a tree says is read, where the texts aren't too long
-abbrev pub SaidTexts : Type 0
-SaidTexts = (vars : List Pair) (file : Tree) (name : List ℕ) (u : Items) (names : List (List ℕ)) → Says vars file nestings name [] u names → size_of file names ≤ most_bytes → texts_of vars file name ≡ Ok (record { items = items_of u; names = names })
+-- ---- a text that no tree spells
 
 -- each text that is included is read
-abbrev pub AlwaysReads : (List ℕ → Reading → Result Reading WalkFault) → Type 0
+abbrev pub AlwaysReads : Walk → Type 0
 AlwaysReads included = (name : List ℕ) (reading : Reading) → (after : Reading) × (included name reading ≡ Ok after)
 
 -- a text of the grammar begins so
@@ -48,8 +43,32 @@ BeginsText front = (t : Items) × (more : List Lexeme) × (Spells t (front ++ mo
 
 -- the walk refuses a text at the first token with which no text of the grammar goes on, whatever its value
 abbrev pub RefusesToken : Type 0
-RefusesToken = (vars : List Pair) (text : Text) (front : List Token) (token : Token) (behind : List Token) (fs : List Lexeme) (l : Lexeme) → LexemesOf vars text front fs → is_of token.kind l ≡ true → BeginsText fs → (BeginsText (fs ++ l ∷ []) → ⊥) → (included : List ℕ → Reading → Result Reading WalkFault) → AlwaysReads included → (reading : Reading) → tokens_walked included vars text (front ++ token ∷ behind) start reading ≡ Err (BadText text.name token.span.at)
+RefusesToken = (vars : List Pair) (text : Text) (front : List Token) (token : Token) (behind : List Token) (fs : List Lexeme) (l : Lexeme) → LexemesOf vars text front fs → is_of token.kind l ≡ true → BeginsText fs → (BeginsText (fs ++ l ∷ []) → ⊥) → (included : Walk) → AlwaysReads included → (reading : Reading) → tokens_walked included vars text (front ++ token ∷ behind) start reading ≡ Err (BadText text.name token.span.at)
 
 -- and at its length, where it only begins one
 abbrev pub RefusesEnd : Type 0
-RefusesEnd = (vars : List Pair) (text : Text) (tokens : List Token) (ls : List Lexeme) → LexemesOf vars text tokens ls → BeginsText ls → ((t : Items) → Spells t ls → ⊥) → (included : List ℕ → Reading → Result Reading WalkFault) → AlwaysReads included → (reading : Reading) → tokens_walked included vars text tokens start reading ≡ Err (BadText text.name (length text.bytes))
+RefusesEnd = (vars : List Pair) (text : Text) (tokens : List Token) (ls : List Lexeme) → LexemesOf vars text tokens ls → BeginsText ls → ((t : Items) → Spells t ls → ⊥) → (included : Walk) → AlwaysReads included → (reading : Reading) → tokens_walked included vars text tokens start reading ≡ Err (BadText text.name (length text.bytes))
+
+-- ---- a text and all that it includes
+
+-- what is read of a text makes the outline that a tree without includes makes: what the text says, in whatever section it is included
+abbrev pub TextStands : Type 0
+TextStands = (vars : List Pair) (file : Tree) (left : ℕ) (name : List ℕ) (reading after : Reading) → text_walked vars file left name reading ≡ Ok after → (u : Items) × (Says vars file left name reading.names u after.names) × (Outlines u reading after)
+
+-- so what is read of a tree makes the outline of the tree in which the items of each text stand in the place of its include
+abbrev pub TreeStands : Type 0
+TreeStands = (vars : List Pair) (file : Tree) (left : ℕ) (t : Items) (reading after : Reading) → tree_walked (text_walked vars file left) t reading ≡ Ok after → (u : Items) × (Spliced (Says vars file left) t reading.names u after.names) × (Outlines u reading after)
+
+-- no text says two things
+abbrev pub SaysOnce : Type 0
+SaysOnce = (vars : List Pair) (file : Tree) (left : ℕ) (name : List ℕ) (before after behind : List (List ℕ)) (u v : Items) → Says vars file left name before u after → Says vars file left name before v behind → (u ≡ v) × (after ≡ behind)
+
+-- ---- the texts of a configuration
+
+-- they say the items of one tree without includes
+abbrev pub TextsSay : Type 0
+TextsSay = (vars : List Pair) (file : Tree) (name : List ℕ) (texts : Texts) → texts_of vars file name ≡ Ok texts → (u : Items) × (Says vars file nestings name [] u texts.names) × (HasNoInclude u) × (texts.items ≡ items_of u) × (size_of file texts.names ≤ most_bytes)
+
+-- what such a tree says is read, where the texts aren't too long
+abbrev pub SaidTexts : Type 0
+SaidTexts = (vars : List Pair) (file : Tree) (name : List ℕ) (u : Items) (names : List (List ℕ)) → Says vars file nestings name [] u names → size_of file names ≤ most_bytes → texts_of vars file name ≡ Ok (record { items = items_of u; names = names })

@@ -6,8 +6,10 @@ use Rattle.outside.specs.Files.{Tree, bytes_of}
 use Rattle.conf_lexer.specs.Text.{tokens_of}
 use Rattle.conf_items.specs.declared.grammar.Lexeme.{Lexeme}
 use Rattle.conf_grammar.specs.Trees.{Items, NoItem, IncludeThen, OptionThen, SectionThen, Spells}
+use Rattle.conf_walk.specs.declared.texts.Reading.{Reading}
 use Rattle.conf_walk.specs.declared.texts.Text.{Text}
-use Rattle.conf_trees.specs.Walked.{LexemesOf}
+use Rattle.conf_trees.specs.Said.{HasNoInclude}
+use Rattle.conf_trees.specs.Walked.{LexemesOf, Walk, tree_walked, with_outline}
 
 -- the items of one tree, and behind them those of another
 abbrev pub joined : Items → Items → Items
@@ -42,3 +44,7 @@ Says vars file (suc left) name before u after =
 -- the sum of the lengths of these texts
 abbrev pub size_of : Tree → List (List ℕ) → ℕ
 size_of file names = sum_by (λ name. length (bytes_of file name)) names
+
+-- a tree without includes makes the outline of the one reading that of the other
+abbrev pub Outlines : Items → Reading → Reading → Type 0
+Outlines u before after = HasNoInclude u × ((included : Walk) → tree_walked included u before ≡ Ok (with_outline before after.outline))

@@ -22,11 +22,15 @@ LexemesOf vars text [] [] = Unit {0}
 LexemesOf vars text (token ∷ tokens) (l ∷ ls) = HasLexeme vars text token l × LexemesOf vars text tokens ls
 LexemesOf vars text tokens ls = ⊥
 
+-- what is read once the text of a name was, where something was read before
+abbrev pub Walk : Type 0
+Walk = List ℕ → Reading → Result Reading WalkFault
+
 abbrev pub with_outline : Reading → Outline → Reading
 with_outline reading outline = record reading { outline = outline }
 
 -- what is read once the items of a tree were; `included` is the walk of a text that stands in the place of an include
-abbrev pub tree_walked : (List ℕ → Reading → Result Reading WalkFault) → Items → Reading → Result Reading WalkFault
+abbrev pub tree_walked : Walk → Items → Reading → Result Reading WalkFault
 tree_walked included NoItem reading = Ok reading
 tree_walked included (IncludeThen name rest) reading = do
   after ← included name.text reading

@@ -1,4 +1,4 @@
-ghost use Rattle.conf_trees.specs.Laws.{AddsItems, HasTree, RefusesEnd, RefusesToken, SaidTexts, TextsSay, WalksTree};
+ghost use Rattle.conf_trees.specs.Laws.{AddsItems, HasTree, RefusesEnd, RefusesToken, SaidTexts, SaysOnce, TextStands, TextsSay, TreeStands, WalksTree};
 
 /// Nothing is done: the contract is the law that a text is read as its tree.
 ///
@@ -21,18 +21,6 @@ pub fn trees_say_their_items()
     ensures { AddsItems }
 {}
 
-/// Nothing is done: the contract is the law of what the texts of a configuration say.
-///
-/// They say the items of one tree without includes: that of the main text, with the items of each
-/// text in the place of its include, in whatever section that stands and so on in turn. Such a tree is
-/// there, and has the names of the texts that were read, where the reading doesn't refuse. Where one is
-/// there, nested no deeper than allowed, and the texts aren't too long in all, the reading says it.
-#[tactic(auto, using(crate::proofs::TextsSaid::texts_say, crate::proofs::TextsSaid::said_texts))]
-pub fn texts_say_a_tree()
-    ensures read { TextsSay }
-    ensures said { SaidTexts }
-{}
-
 /// Nothing is done: the contract is the law of the texts that no tree spells.
 ///
 /// Where each text that is included is read, the walk refuses such a text at the start of the first
@@ -42,4 +30,29 @@ pub fn texts_say_a_tree()
 pub fn other_texts_are_refused()
     ensures token { RefusesToken }
     ensures end { RefusesEnd }
+{}
+
+/// Nothing is done: the contract is the law that an include stands for the items of its text.
+///
+/// What is read of a tree is what one reads of the tree in which the items of each text stand in the
+/// place of its include, in whatever section that is, and so on within these texts. A word keeps the
+/// place at which it stands in its own text, under the number which that has in the order of reading.
+/// That is one tree: no text says two things.
+#[tactic(auto, using(crate::proofs::TextsSaid::text_stands, crate::proofs::TextsSaid::tree_stands, crate::proofs::SaidOnce::says_once))]
+pub fn includes_stand_for_their_texts()
+    ensures text { TextStands }
+    ensures tree { TreeStands }
+    ensures once { SaysOnce }
+{}
+
+/// Nothing is done: the contract is the law of what the texts of a configuration say.
+///
+/// They say the items of one tree without includes: that of the main text, with the items of each
+/// text in the place of its include. Where the reading doesn't refuse, that tree is there, and the
+/// texts that it stands for are those that were read, in this order. Where it is there, with no text
+/// nested too deep, and the texts aren't too long in all, the reading says it.
+#[tactic(auto, using(crate::proofs::TextsSaid::texts_say, crate::proofs::TextsSaid::said_texts))]
+pub fn texts_say_a_tree()
+    ensures read { TextsSay }
+    ensures said { SaidTexts }
 {}
