@@ -1,7 +1,7 @@
 -- What a tree makes of an outline is what it says.
-use Rattle.std.proofs.Common.{◌≡◌, ℕ, ◌+◌, ◌-◌, Bool, false, nat_eq, List, [], ◌∷◌, ◌++◌, Result, Ok, if◌then◌else◌, arith, refl, ap, sym, ◌∙◌, append_assoc, append-nil}
+use Rattle.std.proofs.Common.{◌≡◌, ℕ, ◌+◌, ◌-◌, false, nat_eq, List, [], ◌∷◌, ◌++◌, Ok, if◌then◌else◌, arith, refl, ap, sym, ◌∙◌, append_assoc, append-nil}
 use Rattle.std.proofs.lemmas.Bool.Decides.{nat_tests}
-use Rattle.conf_items.specs.Outline.{closed, marker, opened, with_inner_item, with_item, with_section, with_setting}
+use Rattle.conf_items.specs.Outline.{closed, marker, opened, with_inner_item, with_section, with_setting}
 use Rattle.conf_items.specs.declared.items.Head.{Head}
 use Rattle.conf_items.specs.declared.items.Setting.{Setting}
 use Rattle.conf_items.specs.declared.outline.OpenSections.TheVariants.{Nothing, Outer, Inner}
@@ -12,7 +12,6 @@ use Rattle.conf_items.specs.declared.outline.TopItem.TheVariants as top
 use Rattle.conf_items.specs.declared.outline.TopSection.{TopSection}
 use Rattle.conf_grammar.specs.Trees.{Items, NoItem, IncludeThen, OptionThen, SectionThen}
 use Rattle.conf_walk.specs.Walk.{◌>>=◌}
-use Rattle.conf_walk.specs.declared.fault.WalkFault.{WalkFault}
 use Rattle.conf_walk.specs.declared.texts.Reading.{Reading}
 use Rattle.conf_trees.specs.Said.{HasNoInclude, items_of, settings_of, subsections_of}
 use Rattle.conf_trees.specs.Walked.{Walk, tree_walked, with_outline}

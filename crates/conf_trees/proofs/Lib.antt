@@ -7,3 +7,4 @@ pub mod Splicing
 pub mod TextsSaid
 pub mod Refusing
 pub mod SaidOnce
+pub mod Meeting

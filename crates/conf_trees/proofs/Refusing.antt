@@ -2,25 +2,29 @@
 use Rattle.std.proofs.Common.{◌≡◌, ℕ, Bool, true, false, Option, Some, None, List, [], ◌∷◌, ◌++◌, length, Result, Ok, Err, refl, ap, sym, subst, ◌∙◌, append_assoc, append-nil}
 use Rattle.base_fields.specs.declared.names.Pair.{Pair}
 use Rattle.conf_lexer.specs.declared.tokens.Token.{Token}
+use Rattle.conf_lexer.specs.declared.tokens.TokenKind.{TokenKind}
+use Rattle.conf_lexer.specs.declared.tokens.TokenKind.TheVariants as kind
 use Rattle.conf_words.specs.Values.{value_of}
-use Rattle.conf_items.specs.Grammar.{allowed, may_end, moved, start}
+use Rattle.conf_items.specs.Grammar.{allowed, may_end, moved, some_lexeme, start}
 use Rattle.conf_items.specs.Outline.{closed, opened, with_setting}
 use Rattle.conf_items.specs.declared.grammar.Lexeme.{Lexeme}
+use Rattle.conf_items.specs.declared.grammar.Move.{Move}
 use Rattle.conf_items.specs.declared.grammar.Output.{Output}
 use Rattle.conf_items.specs.declared.grammar.Output.TheVariants as output
 use Rattle.conf_items.specs.declared.grammar.Parser.{Parser}
-use Rattle.conf_grammar.proofs.KindsStand.{allowed_stands}
+use Rattle.conf_grammar.proofs.KindsStand.{allowed_stands, refused_cannot}
 use Rattle.conf_grammar.proofs.Standing.{begins_no_tree}
 use Rattle.conf_grammar.proofs.TreesFound.{reads_tree}
 use Rattle.conf_grammar.specs.Trees.{Items, Spells}
 use Rattle.conf_grammar.specs.Laws.{Ran, is_of, run}
-use Rattle.conf_walk.specs.Walk.{◌>>=◌, or_else, refused_by, spelling_of, stepped, taken, tokens_walked, when, with_value}
+use Rattle.conf_walk.specs.Walk.{◌>>=◌, or_else, refused_by, spelling_of, taken, tokens_walked, when, with_value}
 use Rattle.conf_walk.specs.declared.fault.WalkFault.{WalkFault}
 use Rattle.conf_walk.specs.declared.fault.WalkFault.TheVariants.{BadText, Unset}
 use Rattle.conf_walk.specs.declared.texts.Reading.{Reading}
 use Rattle.conf_walk.specs.declared.texts.Text.{Text}
 use Rattle.conf_trees.specs.Walked.{LexemesOf, Walk, with_outline}
-use Rattle.conf_trees.specs.Laws.{AlwaysReads, BeginsText, RefusesEnd, RefusesToken}
+use Rattle.conf_trees.specs.Laws.{RefusesEnd, RefusesToken, RefusesUnset}
+use Rattle.conf_trees.specs.Met.{AlwaysReads, BeginsText, GoesOn, Reaches, Stops}
 use Rattle.conf_trees.proofs.Steps.{leads}
 use Rattle.conf_trees.proofs.TreesWalked.{apart, kept_parser}
 
@@ -59,14 +63,63 @@ not_true : (b : Bool) → (b ≡ true → ⊥) → b ≡ false
 not_true true h = absurd (h refl)
 not_true false h = refl
 
+not_false : (b : Bool) → (b ≡ false → ⊥) → b ≡ true
+not_false true h = refl
+not_false false h = absurd (h refl)
+
+-- some token of a kind
+pub some_is_of : (k : TokenKind) → is_of k (some_lexeme k) ≡ true
+some_is_of kind.Word = refl
+some_is_of kind.Double = refl
+some_is_of kind.Single = refl
+some_is_of kind.OpenBrace = refl
+some_is_of kind.CloseBrace = refl
+some_is_of kind.OpenParen = refl
+some_is_of kind.CloseParen = refl
+some_is_of kind.Equals = refl
+some_is_of kind.PlusEquals = refl
+some_is_of kind.Comma = refl
+
+-- a text that goes on with a token begins so
+pub begins_with : (front : List Lexeme) (l : Lexeme) (more : List Lexeme) (t : Items) → Spells t (front ++ (l ∷ more)) → BeginsText (front ++ l ∷ [])
+begins_with front l more t h = (t, more, subst (Spells t) (sym (append_assoc front (l ∷ []) more)) h)
+
+-- where a kind is allowed, a text goes on with it, and where it isn't, none does
+pub goes_on : (front : List Lexeme) (ran : Ran) (k : TokenKind) → run start front ≡ Some ran → allowed ran.parser k ≡ true → GoesOn front k
+goes_on front ran k e a l of = let stands = allowed_stands front ran k l e of a in begins_with front l stands.0 stands.1 stands.2
+
+pub stops : (front : List Lexeme) (ran : Ran) (k : TokenKind) → run start front ≡ Some ran → allowed ran.parser k ≡ false → Stops front k
+stops front ran k e a l of begins = refused_cannot front ran k l e of a begins.0 begins.1 (subst (Spells begins.0) (append_assoc front (l ∷ []) begins.1) begins.2)
+
+-- the walk up to a token
+reached : (included : Walk) → AlwaysReads included → (vars : List Pair) (text : Text) (tokens : List Token) (front : List Lexeme) (token : Token) (h : Reaches vars text tokens front token) (ran : Ran) → run start front ≡ Some ran → (reading : Reading) →
+    (after : Reading) × (tokens_walked included vars text tokens start reading ≡ tokens_walked included vars text (token ∷ h.behind) ran.parser after)
+reached included reads vars text tokens front token h ran e reading =
+    let walked = front_walked included reads vars text h.before front start ran h.values e (token ∷ h.behind) reading in
+    (walked.0, ap (λ ts. tokens_walked included vars text ts start reading) h.split ∙ walked.1)
+
 pub refuses_token : RefusesToken
-refuses_token vars text front token behind fs l h kind begins none included reads reading =
-    let ran = taken_front fs begins (run start fs) refl in
-    let walked = front_walked included reads vars text front fs start ran.0 h ran.1 (token ∷ behind) reading in
-    let refused : allowed ran.0.parser token.kind ≡ false = not_true (allowed ran.0.parser token.kind) (λ a. let stands = allowed_stands fs ran.0 token.kind l ran.1 kind a in none (stands.1, stands.0, subst (Spells stands.1) (sym (append_assoc fs (l ∷ []) stands.0)) stands.2)) in
+refuses_token vars text tokens front token h none included reads reading =
+    let ran = taken_front front h.begins (run start front) refl in
+    let walked = reached included reads vars text tokens front token h ran.0 ran.1 reading in
+    let refused : allowed ran.0.parser token.kind ≡ false = not_true (allowed ran.0.parser token.kind) (λ a. none (some_lexeme token.kind) (some_is_of token.kind) (goes_on front ran.0 token.kind ran.1 a (some_lexeme token.kind) (some_is_of token.kind))) in
     let bad : WalkFault = BadText text.name token.span.at in
     walked.1
-    ∙ ap (λ b. (when b token bad >>= λ _. refused_by Unset (value_of vars token.kind (spelling_of text token)) >>= λ value. or_else (moved ran.0.parser (with_value text token value)) bad) >>= λ made. taken included made.output walked.0 >>= λ after. tokens_walked included vars text behind made.parser after) refused
+    ∙ ap (λ b. (when b token bad >>= λ _. refused_by Unset (value_of vars token.kind (spelling_of text token)) >>= λ value. or_else (moved ran.0.parser (with_value text token value)) bad) >>= λ made. taken included made.output walked.0 >>= λ after. tokens_walked included vars text h.behind made.parser after) refused
+
+-- a test that passes, and no value behind it
+unset : {A : Type 0} (allows : Bool) (token : Token) (bad : WalkFault) (wanted : Result (List ℕ) (List ℕ)) (var : List ℕ) (f : List ℕ → Result Move WalkFault) (g : Move → Result A WalkFault) → allows ≡ true → wanted ≡ Err var →
+    ((when allows token bad >>= λ _. refused_by Unset wanted >>= f) >>= g) ≡ Err (Unset var)
+unset allows token bad wanted var f g a w = rw (a, w) refl
+
+pub refuses_unset : RefusesUnset
+refuses_unset vars text tokens front token var h goes none included reads reading =
+    let ran = taken_front front h.begins (run start front) refl in
+    let walked = reached included reads vars text tokens front token h ran.0 ran.1 reading in
+    let passes : allowed ran.0.parser token.kind ≡ true = not_false (allowed ran.0.parser token.kind) (λ a. stops front ran.0 token.kind ran.1 a (some_lexeme token.kind) (some_is_of token.kind) (goes (some_lexeme token.kind) (some_is_of token.kind))) in
+    let bad : WalkFault = BadText text.name token.span.at in
+    walked.1
+    ∙ unset (allowed ran.0.parser token.kind) token bad (value_of vars token.kind (spelling_of text token)) var (λ value. or_else (moved ran.0.parser (with_value text token value)) bad) (λ made. taken included made.output walked.0 >>= λ after. tokens_walked included vars text h.behind made.parser after) passes none
 
 pub refuses_end : RefusesEnd
 refuses_end vars text tokens ls h begins none included reads reading =

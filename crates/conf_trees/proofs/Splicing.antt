@@ -1,5 +1,5 @@
 -- What is read of a tree, where the items of other trees stand for what it includes.
-use Rattle.std.proofs.Common.{◌≡◌, ℕ, ◌≤◌, List, [], ◌∷◌, ◌++◌, Result, Ok, Err, refl, ap, sym, ◌∙◌, arith}
+use Rattle.std.proofs.Common.{◌≡◌, ℕ, ◌≤◌, List, Result, Ok, refl, ap, sym, ◌∙◌, arith}
 use Rattle.outside.specs.Files.{Tree}
 use Rattle.conf_items.specs.Outline.{closed, opened, with_setting}
 use Rattle.conf_items.specs.declared.outline.Outline.{Outline}

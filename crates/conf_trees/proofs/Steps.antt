@@ -1,5 +1,5 @@
 -- A token whose lexeme moves is allowed, and leads where its lexeme does.
-use Rattle.std.proofs.Common.{◌≡◌, ℕ, Bool, true, false, Option, Some, is_some, List, Result, Ok, Err, refl, ap, sym, ◌∙◌}
+use Rattle.std.proofs.Common.{◌≡◌, ℕ, Bool, true, false, Option, Some, is_some, List, Result, Ok, refl, ap, sym, ◌∙◌}
 use Rattle.base_fields.specs.declared.names.Pair.{Pair}
 use Rattle.conf_lexer.specs.declared.tokens.Token.{Token}
 use Rattle.conf_lexer.specs.declared.tokens.TokenKind.{TokenKind}

@@ -1,5 +1,5 @@
 -- What the texts of a configuration say is what one tree says.
-use Rattle.std.proofs.Common.{◌≡◌, ℕ, zero, suc, ◌+◌, ◌≤◌, nat_le, true, Option, Some, List, [], ◌∷◌, ◌++◌, length, unwrap_or, Result, Ok, Err, refl, ap, sym, subst, ◌∙◌, arith}
+use Rattle.std.proofs.Common.{◌≡◌, ℕ, zero, suc, ◌+◌, ◌≤◌, nat_le, true, Option, Some, List, [], ◌∷◌, ◌++◌, length, unwrap_or, Result, Ok, refl, ap, sym, subst, ◌∙◌, arith}
 use Rattle.std.proofs.lemmas.Bool.Decides.{nat_tests}
 use Rattle.std.proofs.lemmas.List.Sums.{sum_by_push}
 use Rattle.base_fields.specs.declared.names.Pair.{Pair}
@@ -11,12 +11,11 @@ use Rattle.conf_items.specs.Outline.{closed, opened, with_setting}
 use Rattle.conf_items.specs.declared.outline.OpenSections.TheVariants.{Nothing}
 use Rattle.conf_items.specs.declared.outline.Outline.{Outline}
 use Rattle.conf_grammar.specs.Trees.{Items, NoItem, IncludeThen, OptionThen, SectionThen}
-use Rattle.conf_walk.specs.Walk.{◌>>=◌, in_limit, most_bytes, nestings, nothing_read, or_else, refused_by, text_read, text_walked, texts_in, texts_of, tokens_walked, when, with_text}
+use Rattle.conf_walk.specs.Walk.{◌>>=◌, in_limit, most_bytes, nestings, nothing_read, or_else, refused_by, text_read, text_walked, texts_in, tokens_walked, with_text}
 use Rattle.conf_walk.specs.declared.fault.WalkFault.{WalkFault}
-use Rattle.conf_walk.specs.declared.fault.WalkFault.TheVariants.{BadText, Missing, TooLong}
+use Rattle.conf_walk.specs.declared.fault.WalkFault.TheVariants.{BadText, Missing}
 use Rattle.conf_walk.specs.declared.texts.Reading.{Reading}
 use Rattle.conf_walk.specs.declared.texts.Text.{Text}
-use Rattle.conf_walk.specs.declared.walking.Texts.{Texts}
 use Rattle.conf_trees.specs.Laws.{SaidTexts, TextStands, TextsSay, TreeStands}
 use Rattle.conf_trees.specs.Said.{HasNoInclude}
 use Rattle.conf_trees.specs.Spliced.{IsTextOf, Outlines, Says, Spliced, size_of}

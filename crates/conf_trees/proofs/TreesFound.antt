@@ -1,5 +1,5 @@
 -- A text that is read has a tree.
-use Rattle.std.proofs.Common.{◌≡◌, ℕ, Bool, true, false, Option, Some, None, List, [], ◌∷◌, ◌++◌, Result, Ok, Err, refl, ap, sym, ◌∙◌}
+use Rattle.std.proofs.Common.{◌≡◌, ℕ, Bool, true, false, Option, Some, None, List, [], ◌∷◌, Result, Ok, Err, refl, ap, ◌∙◌}
 use Rattle.base_fields.specs.declared.names.Pair.{Pair}
 use Rattle.conf_lexer.specs.declared.tokens.Token.{Token}
 use Rattle.conf_words.specs.Values.{value_of}
@@ -10,7 +10,6 @@ use Rattle.conf_items.specs.declared.grammar.Output.{Output}
 use Rattle.conf_items.specs.declared.grammar.Output.TheVariants as output
 use Rattle.conf_items.specs.declared.grammar.Parser.{Parser}
 use Rattle.conf_grammar.proofs.TreesFound.{reads_tree}
-use Rattle.conf_grammar.specs.Trees.{Items, Spells}
 use Rattle.conf_grammar.specs.Laws.{Ran, behind_move, kept, run}
 use Rattle.conf_walk.specs.Walk.{◌>>=◌, or_else, refused_by, spelling_of, stepped, taken, tokens_walked, when, with_value}
 use Rattle.conf_walk.specs.declared.fault.WalkFault.{WalkFault}

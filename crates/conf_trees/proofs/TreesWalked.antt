@@ -1,5 +1,5 @@
 -- The walk of a text is the walk of the tree that spells it.
-use Rattle.std.proofs.Common.{◌≡◌, ℕ, Bool, true, Option, Some, None, List, [], ◌∷◌, ◌++◌, Result, Ok, Err, refl, ap, sym, ◌∙◌}
+use Rattle.std.proofs.Common.{◌≡◌, true, Option, Some, None, List, [], ◌∷◌, ◌++◌, Result, Ok, Err, refl, ap, sym, ◌∙◌}
 use Rattle.base_fields.specs.declared.names.Pair.{Pair}
 use Rattle.conf_lexer.specs.declared.tokens.Token.{Token}
 use Rattle.conf_items.specs.Grammar.{may_end, moved, start}
@@ -10,9 +10,9 @@ use Rattle.conf_items.specs.declared.grammar.Output.{Output}
 use Rattle.conf_items.specs.declared.grammar.Output.TheVariants as output
 use Rattle.conf_items.specs.declared.grammar.Parser.{Parser}
 use Rattle.conf_grammar.proofs.Standing.{text_reads}
-use Rattle.conf_grammar.specs.Trees.{Items, NoItem, IncludeThen, OptionThen, SectionThen, Spells}
+use Rattle.conf_grammar.specs.Trees.{Items, NoItem, IncludeThen, OptionThen, SectionThen}
 use Rattle.conf_grammar.specs.Laws.{Ran, behind_move, kept, outputs_of, run}
-use Rattle.conf_walk.specs.Walk.{◌>>=◌, stepped, taken, tokens_walked}
+use Rattle.conf_walk.specs.Walk.{◌>>=◌, taken, tokens_walked}
 use Rattle.conf_walk.specs.declared.fault.WalkFault.{WalkFault}
 use Rattle.conf_walk.specs.declared.texts.Reading.{Reading}
 use Rattle.conf_walk.specs.declared.texts.Text.{Text}

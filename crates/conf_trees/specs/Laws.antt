@@ -1,18 +1,19 @@
 -- The laws: the walk of a text is the walk of its tree, and what all texts say is what one tree says.
-use Rattle.std.specs.Prelude.{◌≡◌, ℕ, ◌≤◌, true, List, [], ◌∷◌, ◌++◌, length, Ok, Err}
+use Rattle.std.specs.Prelude.{◌≡◌, ℕ, ◌≤◌, List, [], ◌++◌, length, Ok, Err}
 use Rattle.base_fields.specs.declared.names.Pair.{Pair}
 use Rattle.outside.specs.Files.{Tree}
 use Rattle.conf_lexer.specs.declared.tokens.Token.{Token}
+use Rattle.conf_words.specs.Values.{value_of}
 use Rattle.conf_items.specs.Grammar.{start}
 use Rattle.conf_items.specs.declared.grammar.Lexeme.{Lexeme}
 use Rattle.conf_items.specs.declared.outline.OpenSections.TheVariants.{Nothing}
 use Rattle.conf_grammar.specs.Trees.{Items, Spells}
-use Rattle.conf_grammar.specs.Laws.{is_of}
-use Rattle.conf_walk.specs.Walk.{most_bytes, nestings, text_walked, texts_of, tokens_walked}
-use Rattle.conf_walk.specs.declared.fault.WalkFault.TheVariants.{BadText}
+use Rattle.conf_walk.specs.Walk.{most_bytes, nestings, spelling_of, text_walked, texts_of, tokens_walked}
+use Rattle.conf_walk.specs.declared.fault.WalkFault.TheVariants.{BadText, Unset}
 use Rattle.conf_walk.specs.declared.texts.Reading.{Reading}
 use Rattle.conf_walk.specs.declared.texts.Text.{Text}
 use Rattle.conf_walk.specs.declared.walking.Texts.{Texts}
+use Rattle.conf_trees.specs.Met.{AlwaysReads, BeginsText, GoesOn, Meets, Reaches, Stops}
 use Rattle.conf_trees.specs.Said.{HasNoInclude, items_of}
 use Rattle.conf_trees.specs.Spliced.{Outlines, Says, Spliced, size_of}
 use Rattle.conf_trees.specs.Walked.{LexemesOf, Walk, tree_walked, with_outline}
@@ -31,21 +32,21 @@ HasTree = (vars : List Pair) (text : Text) (tokens : List Token) (included : Wal
 abbrev pub AddsItems : Type 0
 AddsItems = (t : Items) → HasNoInclude t → (included : Walk) (reading : Reading) → reading.outline.inside ≡ Nothing → tree_walked included t reading ≡ Ok (with_outline reading (record { items = reading.outline.items ++ items_of t; inside = Nothing }))
 
--- ---- a text that no tree spells
+-- ---- one text that the walk refuses, where each text that it includes is read
 
--- each text that is included is read
-abbrev pub AlwaysReads : Walk → Type 0
-AlwaysReads included = (name : List ℕ) (reading : Reading) → (after : Reading) × (included name reading ≡ Ok after)
+-- tokens are spelled by a tree, or only begin a text, or one can't stand, or one has no value
+abbrev pub MeetsOne : Type 0
+MeetsOne = (vars : List Pair) (text : Text) (tokens : List Token) → Meets vars text tokens
 
--- a text of the grammar begins so
-abbrev pub BeginsText : List Lexeme → Type 0
-BeginsText front = (t : Items) × (more : List Lexeme) × (Spells t (front ++ more))
-
--- the walk refuses a text at the first token with which no text of the grammar goes on, whatever its value
+-- the walk refuses at the first token with which no text of the grammar goes on, whatever its value
 abbrev pub RefusesToken : Type 0
-RefusesToken = (vars : List Pair) (text : Text) (front : List Token) (token : Token) (behind : List Token) (fs : List Lexeme) (l : Lexeme) → LexemesOf vars text front fs → is_of token.kind l ≡ true → BeginsText fs → (BeginsText (fs ++ l ∷ []) → ⊥) → (included : Walk) → AlwaysReads included → (reading : Reading) → tokens_walked included vars text (front ++ token ∷ behind) start reading ≡ Err (BadText text.name token.span.at)
+RefusesToken = (vars : List Pair) (text : Text) (tokens : List Token) (front : List Lexeme) (token : Token) → Reaches vars text tokens front token → Stops front token.kind → (included : Walk) → AlwaysReads included → (reading : Reading) → tokens_walked included vars text tokens start reading ≡ Err (BadText text.name token.span.at)
 
--- and at its length, where it only begins one
+-- at the first variable without a value, where a text of the grammar goes on with the token
+abbrev pub RefusesUnset : Type 0
+RefusesUnset = (vars : List Pair) (text : Text) (tokens : List Token) (front : List Lexeme) (token : Token) (var : List ℕ) → Reaches vars text tokens front token → GoesOn front token.kind → value_of vars token.kind (spelling_of text token) ≡ Err var → (included : Walk) → AlwaysReads included → (reading : Reading) → tokens_walked included vars text tokens start reading ≡ Err (Unset var)
+
+-- and at the length of a text whose tokens only begin one of the grammar
 abbrev pub RefusesEnd : Type 0
 RefusesEnd = (vars : List Pair) (text : Text) (tokens : List Token) (ls : List Lexeme) → LexemesOf vars text tokens ls → BeginsText ls → ((t : Items) → Spells t ls → ⊥) → (included : Walk) → AlwaysReads included → (reading : Reading) → tokens_walked included vars text tokens start reading ≡ Err (BadText text.name (length text.bytes))
 

@@ -2,4 +2,5 @@
 pub mod Walked
 pub mod Said
 pub mod Spliced
+pub mod Met
 pub mod Laws

@@ -1,4 +1,4 @@
-ghost use Rattle.conf_trees.specs.Laws.{AddsItems, HasTree, RefusesEnd, RefusesToken, SaidTexts, SaysOnce, TextStands, TextsSay, TreeStands, WalksTree};
+ghost use Rattle.conf_trees.specs.Laws.{AddsItems, HasTree, MeetsOne, RefusesEnd, RefusesToken, RefusesUnset, SaidTexts, SaysOnce, TextStands, TextsSay, TreeStands, WalksTree};
 
 /// Nothing is done: the contract is the law that a text is read as its tree.
 ///
@@ -21,14 +21,18 @@ pub fn trees_say_their_items()
     ensures { AddsItems }
 {}
 
-/// Nothing is done: the contract is the law of the texts that no tree spells.
+/// Nothing is done: the contract is the law of the texts whose walk refuses.
 ///
-/// Where each text that is included is read, the walk refuses such a text at the start of the first
-/// token with which no text of the grammar goes on, whatever that token's value, if any. Where the
-/// tokens only begin a text, it refuses at the text's length.
-#[tactic(auto, using(crate::proofs::Refusing::refuses_token, crate::proofs::Refusing::refuses_end))]
+/// Each text is one of four: its tokens have values and a tree spells them; they have, and only begin
+/// a text of the grammar; or there is a first token with which no text of the grammar goes on, whatever
+/// that token's value; or a first token that lacks a value. Where each text that is included is read,
+/// the walk refuses the second at the text's length, the third at the token, and the fourth by the
+/// variable.
+#[tactic(auto, using(crate::proofs::Refusing::refuses_end))]
 pub fn other_texts_are_refused()
+    ensures meets { MeetsOne }
     ensures token { RefusesToken }
+    ensures unset { RefusesUnset }
     ensures end { RefusesEnd }
 {}
 
