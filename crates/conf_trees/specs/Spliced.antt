@@ -18,7 +18,7 @@ joined (IncludeThen name rest) u = IncludeThen name (joined rest u)
 joined (OptionThen setting rest) u = OptionThen setting (joined rest u)
 joined (SectionThen head inside rest) u = SectionThen head inside (joined rest u)
 
--- `u` is a tree with items in the place of each include. `Stands name before v after`: the items of v stand for the text of that name, where texts of the names `before` were read, and `after` are those read behind it
+-- `u` is a tree with items in the place of each include. `Stands name before v after`: those of v stand for the text of that name, where the texts of the names `before` were read up to there, and those of `after` once it was
 abbrev pub Spliced : (List ℕ → List (List ℕ) → Items → List (List ℕ) → Type 0) → Items → List (List ℕ) → Items → List (List ℕ) → Type 0
 Spliced Stands NoItem before u after = (u ≡ NoItem) × (after ≡ before)
 Spliced Stands (IncludeThen name rest) before u after =
@@ -35,7 +35,7 @@ IsTextOf file name number text = (file name ≡ Some text.bytes) × (tokens_of t
 abbrev pub IsTreeOf : List Pair → Text → Items → Type 0
 IsTreeOf vars text t = (ls : List Lexeme) × (LexemesOf vars text text.tokens ls) × (Spells t ls)
 
--- `u` says what the text of that name says with all that it includes, at so many nestings at most
+-- `u` says what the text of that name says with all that it includes, where so many nestings are left for it; the names are those of the texts read up to there, and once it was
 unfoldable pub Says : List Pair → Tree → ℕ → List ℕ → List (List ℕ) → Items → List (List ℕ) → Type 0
 Says vars file zero name before u after = ⊥
 Says vars file (suc left) name before u after =
