@@ -1,5 +1,5 @@
 -- Where two things have one name.
-use Rattle.std.specs.Prelude.{ℕ, Bool, ◌&&◌, List, [], ◌∷◌, ◌++◌, Option, Some, None, filter, map, if◌then◌else◌}
+use Rattle.std.specs.Prelude.{ℕ, Bool, List, [], ◌∷◌, ◌++◌, Option, Some, None, filter, map, if◌then◌else◌}
 use Rattle.std.specs.List.{flat_map}
 use Rattle.std.specs.Option.{option_or, option_to_list}
 use Rattle.conf_keys.specs.declared.conf.Conf.{Conf}
@@ -16,10 +16,14 @@ use Rattle.image_graph.specs.Specs.{specs_of}
 
 -- ---- sections: the first that has one name with an earlier one
 
+-- a name that is one of these
+abbrev pub clash_among : List (List ℕ) → List ℕ → Option GraphFault
+clash_among names name = if holds names name then Some (NameClash name) else None
+
 -- the first name that an earlier one is
 abbrev pub again : List (List ℕ) → List (List ℕ) → Option GraphFault
 again earlier [] = None
-again earlier (name ∷ rest) = if holds earlier name then Some (NameClash name) else again (earlier ++ name ∷ []) rest
+again earlier (name ∷ rest) = option_or (clash_among earlier name) (again (earlier ++ name ∷ []) rest)
 
 abbrev pub flash_clash : List FlashSection → Option GraphFault
 flash_clash flashes = again [] (names_of flashes)
@@ -37,12 +41,13 @@ full_of output image = full_name output image.name
 abbrev pub built_fulls : List ℕ → List ImageSection → List (List ℕ)
 built_fulls output images = map (full_of output) (filter is_built images)
 
--- an image has one name with one of these, or, where it is built, one full name
+-- the full name of an image that is built is one of these
+abbrev pub full_clash : List (List ℕ) → List ℕ → ImageSection → Option GraphFault
+full_clash fulls output image = if is_built image then clash_among fulls (full_of output image) else None
+
+-- an image has one name with one of these
 abbrev pub clash_with : List (List ℕ) → List (List ℕ) → List ℕ → ImageSection → Option GraphFault
-clash_with names fulls output image =
-    if holds names image.name then Some (NameClash image.name)
-    else if is_built image && holds fulls (full_of output image) then Some (NameClash (full_of output image))
-    else None
+clash_with names fulls output image = option_or (clash_among names image.name) (full_clash fulls output image)
 
 abbrev pub image_again : List ℕ → List ImageSection → List ImageSection → Option GraphFault
 image_again output earlier [] = None
@@ -70,7 +75,7 @@ abbrev pub taken : List ImageSpec → List (List ℕ)
 taken specs = flat_map (λ spec. flat_map ready_name spec.sources) specs
 
 abbrev pub file_fault : List (List ℕ) → ImageSpec → Option GraphFault
-file_fault names spec = if holds names spec.full then Some (NameClash spec.full) else None
+file_fault names spec = clash_among names spec.full
 
 abbrev pub file_clash : List (List ℕ) → List ImageSpec → Option GraphFault
 file_clash texts specs =

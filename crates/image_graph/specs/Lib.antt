@@ -6,5 +6,6 @@ pub mod Graph
 pub mod Images
 pub mod Laws
 pub mod Order
+pub mod Path
 pub mod Rows
 pub mod Specs

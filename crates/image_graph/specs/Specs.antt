@@ -1,5 +1,5 @@
 -- What is built: each image with its full name, its flash device, and what it is made of.
-use Rattle.std.specs.Prelude.{ℕ, Bool, List, [], ◌∷◌, Option, Some, None, find, map, option_and_then, position, unwrap_or}
+use Rattle.std.specs.Prelude.{ℕ, Bool, List, [], ◌∷◌, Option, Some, None, filter, find, map, option_and_then, position, unwrap_or}
 use Rattle.std.specs.Str.{bytes_eq}
 use Rattle.conf_keys.specs.declared.conf.Conf.{Conf}
 use Rattle.conf_keys.specs.declared.conf.FlashSection.{FlashSection}
@@ -9,14 +9,18 @@ use Rattle.conf_keys.specs.declared.conf.Kind.TheVariants as kind
 use Rattle.file_names.specs.FullName.{full_name}
 use Rattle.image_graph.specs.declared.specs.ImageSpec.{ImageSpec}
 use Rattle.image_graph.specs.declared.specs.Source.{Source}
-use Rattle.image_graph.specs.Images.{built_images, only_kind}
+use Rattle.image_graph.specs.Images.{built_images, is_built, only_kind}
 
 -- the place of a name among names
 abbrev pub number_of : List (List ℕ) → List ℕ → Option ℕ
 number_of names name = position (bytes_eq name) names
 
+-- the names of those images that are built
+abbrev pub names_built : List ImageSection → List (List ℕ)
+names_built images = map (λ image. image.name) (filter is_built images)
+
 abbrev pub built_names : Conf → List (List ℕ)
-built_names conf = map (λ image. image.name) (built_images conf)
+built_names conf = names_built conf.images
 
 -- ---- sources
 

@@ -1,4 +1,4 @@
-use base_fields::Name;
+use base_fields::{Name, NoMemory};
 
 /// Why the images of a configuration can't be built, in the order in which the causes are looked
 /// for, each over the whole configuration before the next.
@@ -17,4 +17,15 @@ pub enum GraphFault {
     Cycle { name: Name },
     /// Memory was refused.
     NoMemory,
+}
+
+impl From<NoMemory> for GraphFault {
+    ghost use Rattle.std.specs.Prelude.{◌≡◌};
+    ghost use Rattle.image_graph.specs.declared.fault.GraphFault.TheVariants.{NoMemory};
+
+    ghost from_gives = { λ _ fault. fault ≡ NoMemory };
+
+    fn from(_: NoMemory) -> Self {
+        GraphFault::NoMemory
+    }
 }

@@ -1,10 +1,21 @@
 //! Which images of a configuration are built, from which images and files, and in which order.
 #![tactic(auto)]
 
+mod chains;
+mod clashes;
+mod copies;
+mod counts;
 mod fault;
+mod images;
 mod making;
+mod names;
+mod ordering;
+mod sources;
 mod specs;
 
 pub use fault::GraphFault;
 pub use making::graph;
 pub use specs::{Graph, ImageSpec, Source};
+
+#[cfg(test)]
+mod tests;
