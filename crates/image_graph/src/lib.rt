@@ -7,6 +7,7 @@ mod copies;
 mod counts;
 mod fault;
 mod images;
+mod laws;
 mod making;
 mod names;
 mod ordering;
@@ -14,6 +15,7 @@ mod sources;
 mod specs;
 
 pub use fault::GraphFault;
+pub use laws::{cycles_are_chains, images_stand_in_order};
 pub use making::graph;
 pub use specs::{Graph, ImageSpec, Source};
 
