@@ -1,7 +1,6 @@
 -- A chain of any length that returns, and the bounded search for one.
-use Rattle.std.proofs.Common.{◌≡◌, ℕ, zero, suc, ◌+◌, ◌<◌, ◌≤◌, ◌||◌, ◌⊎◌, inl, inr, List, [], ◌∷◌, ◌++◌, Bool, true, false, Option, Some, None, refl, ap, sym, subst, ◌∙◌, nat_eq, length, arith}
+use Rattle.std.proofs.Common.{◌≡◌, ℕ, zero, suc, ◌<◌, ◌≤◌, ◌||◌, inl, inr, List, [], ◌∷◌, ◌++◌, Bool, true, false, Option, Some, None, refl, sym, subst, nat_eq, length, arith}
 use Rattle.std.specs.Prelude.{Contains, slice_get, unwrap_or}
-use Rattle.std.specs.List.{list_any}
 use Rattle.std.proofs.lemmas.Bool.{eq-eqb, eqb-true}
 use Rattle.std.proofs.lemmas.Option.{slice_get_within}
 use Rattle.image_graph.specs.Chains.{IsChain, children, reaches, returns}
@@ -76,7 +75,7 @@ chain_below families a (c ∷ bs) b chain = (parent_below families a c chain.0, 
 
 -- ---- the law
 
-returned : (families : List (List ℕ)) (image : ℕ) → HasCycle families image → returns families image ≡ true
+pub returned : (families : List (List ℕ)) (image : ℕ) → HasCycle families image → returns families image ≡ true
 returned families image cycle =
     let short = simple families image cycle.0 image cycle.1 in
     let few : length (image ∷ short.0) ≤ length families = pigeon (length families) (image ∷ short.0) short.2 (chain_below families image short.0 image short.1) in

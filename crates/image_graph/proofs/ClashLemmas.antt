@@ -1,5 +1,5 @@
 -- One step of the search for two things with one name.
-use Rattle.std.proofs.Common.{◌≡◌, ℕ, ◌+◌, ◌<◌, ◌≤◌, ◌||◌, List, [], ◌∷◌, ◌++◌, Bool, true, false, not, cond, Option, Some, None, Result, refl, subst, ap, sym, ◌∙◌, map, take, drop, get_or, length, arith}
+use Rattle.std.proofs.Common.{◌≡◌, ℕ, ◌+◌, ◌<◌, ◌≤◌, ◌||◌, List, [], ◌∷◌, ◌++◌, Bool, true, false, not, cond, Option, Some, None, Result, refl, subst, ap, sym, ◌∙◌, map, take, drop, get_or, length}
 use Rattle.std.specs.Prelude.{filter}
 use Rattle.std.specs.Option.{option_map_or, option_or}
 use Rattle.std.specs.Str.{bytes_eq}
@@ -13,8 +13,8 @@ use Rattle.image_graph.specs.declared.fault.GraphFault.{GraphFault}
 use Rattle.image_graph.specs.declared.fault.GraphFault.TheVariants.{NameClash, NoFlash}
 use Rattle.image_graph.specs.declared.specs.ImageSpec.{ImageSpec}
 use Rattle.image_graph.specs.Graph.{Passes}
-use Rattle.image_graph.specs.Clashes.{built_fulls, clash_among, clash_with, file_fault, full_clash, full_of, image_again, image_names}
-use Rattle.image_graph.specs.Counts.{first_fault, flash_fault, flash_fault_of, has_flash}
+use Rattle.image_graph.specs.Clashes.{built_fulls, clash_among, clash_with, file_fault, full_clash, image_again, image_names}
+use Rattle.image_graph.specs.Counts.{first_fault, flash_fault, flash_fault_of}
 use Rattle.image_graph.specs.Images.{HoldSame, holds, is_built, only_kind}
 use Rattle.image_graph.specs.Specs.{names_built}
 use Rattle.image_graph.proofs.Reading.{drop_read, take_read}

@@ -1,5 +1,6 @@
 pub mod ChainLemmas
 pub mod ClashLemmas
+pub mod MadeLemmas
 pub mod Members
 pub mod NameLemmas
 pub mod NumberLemmas

@@ -1,5 +1,5 @@
 -- Names of a set, by the texts of its keys.
-use Rattle.std.proofs.Common.{◌≡◌, ℕ, ◌||◌, ◌+◌, ◌<◌, ◌≤◌, List, [], ◌∷◌, ◌++◌, refl, ap, sym, ◌∙◌, map, Bool, true, false, not, Option, Some, None, take, drop, get_or, length, cond, arith, string_bytes, String, Global}
+use Rattle.std.proofs.Common.{◌≡◌, ℕ, ◌||◌, ◌+◌, ◌<◌, ◌≤◌, List, [], ◌∷◌, ◌++◌, refl, ap, sym, ◌∙◌, map, Bool, true, false, not, Some, None, drop, get_or, length, cond, arith, string_bytes, String, Global}
 use Rattle.std.specs.Str.{bytes_eq}
 use Rattle.std.proofs.lemmas.Slice.Eq.{bytes_eq-Decides}
 use Rattle.image_graph.proofs.Reading.{drop_read}
@@ -7,7 +7,7 @@ use Rattle.std.specs.String.{string_eq}
 use Rattle.indexmap.specs.IndexSet.{insert_key}
 use Rattle.std.proofs.lemmas.List.Folds.{list_any-append}
 use Rattle.image_graph.specs.Images.{HoldSame, holds}
-use Rattle.std.specs.List.{list_any, flat_map, position, position_or_len}
+use Rattle.std.specs.List.{list_any, position, position_or_len}
 use Rattle.std.proofs.lemmas.List.{at_drop_all, length-map, map-append}
 
 -- a test of a text, and of the keys that have it

@@ -1,6 +1,6 @@
 -- Each child is the number of an image that is built.
-use Rattle.std.proofs.Common.{◌≡◌, ℕ, ◌<◌, ◌⊎◌, inl, inr, List, [], ◌∷◌, Bool, true, false, Option, Some, None, refl, ap, sym, subst, ◌∙◌, map, length, arith}
-use Rattle.std.specs.Prelude.{Contains, filter, position, slice_get, unwrap_or}
+use Rattle.std.proofs.Common.{◌≡◌, ℕ, ◌<◌, inl, inr, List, [], ◌∷◌, true, Option, Some, None, refl, ap, sym, subst, ◌∙◌, map, length, arith}
+use Rattle.std.specs.Prelude.{Contains, slice_get, unwrap_or}
 use Rattle.std.specs.List.{filter_map}
 use Rattle.std.specs.Option.{option_map}
 use Rattle.std.specs.Str.{bytes_eq}
@@ -12,14 +12,13 @@ use Rattle.conf_keys.specs.declared.conf.ImageSection.{ImageSection}
 use Rattle.conf_keys.specs.declared.conf.Kind.{Kind}
 use Rattle.conf_keys.specs.declared.conf.Kind.TheVariants as kind
 use Rattle.conf_keys.specs.declared.conf.PartitionSection.{PartitionSection}
-use Rattle.image_graph.specs.declared.specs.ImageSpec.{ImageSpec}
 use Rattle.image_graph.specs.declared.specs.Source.{Source}
 use Rattle.image_graph.specs.Chains.{children, children_of, families_of}
 use Rattle.image_graph.specs.Images.{built_images, only_kind}
 use Rattle.image_graph.specs.Order.{is_placed}
 use Rattle.image_graph.specs.Specs.{built_names, file_or_child, number_of, source_of, sources_of, spec_of, specs_of}
 use Rattle.image_graph.proofs.ChainLemmas.{none_contains}
-use Rattle.image_graph.proofs.Members.{contains_placed, placed_cons, placed_from}
+use Rattle.image_graph.proofs.Members.{placed_cons, placed_from}
 
 -- a source has no child, or one below a limit
 abbrev IsBelow : ℕ → Source → Type 0

@@ -1,12 +1,11 @@
 -- Images that are placed one after another stand in order.
-use Rattle.std.proofs.Common.{◌≡◌, ℕ, zero, suc, ◌+◌, ◌<◌, ◌≤◌, ◌⊎◌, inl, inr, List, [], ◌∷◌, ◌++◌, Bool, true, false, refl, ap, sym, subst, ◌∙◌, ◌||◌, nat_eq, append_assoc, length, arith}
+use Rattle.std.proofs.Common.{◌≡◌, ℕ, zero, suc, ◌+◌, ◌<◌, ◌≤◌, ◌⊎◌, inl, inr, List, [], ◌∷◌, ◌++◌, true, false, refl, ap, sym, subst, ◌∙◌, ◌||◌, nat_eq, append_assoc, length, arith}
 use Rattle.std.specs.Prelude.{All, Contains, fold}
 use Rattle.std.specs.List.{AllByRecursion, range_with_len}
 use Rattle.std.proofs.lemmas.List.Elements.{All-cons, All-from_recursion, All-nil}
 use Rattle.std.proofs.lemmas.Bool.{eq-eqb}
-use Rattle.conf_keys.specs.declared.conf.Conf.{Conf}
 use Rattle.image_graph.specs.Chains.{IsChain, children, families_of}
-use Rattle.image_graph.specs.Laws.{HasCycle, HasNone, IsOrder, OrderPlaces, OrderStands}
+use Rattle.image_graph.specs.Laws.{HasNone, IsOrder, OrderPlaces, OrderStands}
 use Rattle.image_graph.specs.Order.{Behind, NoneLeft, Places, There, is_placed, order_among, with_image}
 use Rattle.image_graph.specs.Specs.{specs_of}
 use Rattle.image_graph.proofs.ChainLemmas.{chain-append}

@@ -1,10 +1,10 @@
 -- A row marks the images that have a chain in so many steps.
-use Rattle.std.proofs.Common.{◌≡◌, ℕ, zero, suc, ◌+◌, ◌||◌, List, [], ◌∷◌, Bool, false, Option, Some, None, refl, ap, sym, ◌∙◌, nat_eq, map, length, arith}
+use Rattle.std.proofs.Common.{◌≡◌, ℕ, zero, suc, ◌||◌, List, [], ◌∷◌, Bool, false, Option, Some, None, refl, ap, ◌∙◌, nat_eq}
 use Rattle.std.specs.Prelude.{slice_get, unwrap_or}
 use Rattle.std.specs.Option.{option_map}
 use Rattle.std.specs.List.{list_any}
 use Rattle.std.proofs.lemmas.Option.{slice_get-map}
-use Rattle.image_graph.specs.Chains.{children, reaches}
+use Rattle.image_graph.specs.Chains.{reaches}
 use Rattle.image_graph.specs.Rows.{is_marked, leads, row_of}
 
 list_any_same : {X : Type 0} (p q : X → Bool) → ((x : X) → p x ≡ q x) → (xs : List X) → list_any p xs ≡ list_any q xs

@@ -1,5 +1,5 @@
 -- The children of each image, and chains of them.
-use Rattle.std.specs.Prelude.{ℕ, zero, suc, ◌+◌, ◌||◌, nat_eq, Bool, false, List, [], ◌∷◌, Option, Some, None, Contains, length, map, slice_get, unwrap_or, if◌then◌else◌}
+use Rattle.std.specs.Prelude.{ℕ, zero, suc, ◌||◌, nat_eq, Bool, false, List, [], ◌∷◌, Option, Some, None, Contains, length, map, slice_get, unwrap_or, if◌then◌else◌}
 use Rattle.std.specs.List.{filter_map, list_any}
 use Rattle.image_graph.specs.declared.fault.GraphFault.{GraphFault}
 use Rattle.image_graph.specs.declared.fault.GraphFault.TheVariants.{Cycle}

@@ -9,3 +9,4 @@ pub mod Order
 pub mod Path
 pub mod Rows
 pub mod Specs
+pub mod Within

@@ -1,5 +1,5 @@
 -- The order in which images are built.
-use Rattle.std.specs.Prelude.{◌≡◌, ℕ, zero, suc, nat_eq, Bool, List, [], ◌∷◌, ◌++◌, Contains, fold, length, if◌then◌else◌}
+use Rattle.std.specs.Prelude.{ℕ, zero, suc, nat_eq, Bool, List, [], ◌∷◌, ◌++◌, Contains, fold, length, if◌then◌else◌}
 use Rattle.std.specs.List.{list_any, range_with_len}
 use Rattle.image_graph.specs.declared.specs.ImageSpec.{ImageSpec}
 use Rattle.image_graph.specs.Chains.{children, families_of}

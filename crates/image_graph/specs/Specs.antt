@@ -1,5 +1,5 @@
 -- What is built: each image with its full name, its flash device, and what it is made of.
-use Rattle.std.specs.Prelude.{ℕ, Bool, List, [], ◌∷◌, Option, Some, None, filter, find, map, option_and_then, position, unwrap_or}
+use Rattle.std.specs.Prelude.{ℕ, List, [], ◌∷◌, Option, Some, None, filter, find, map, option_and_then, position, unwrap_or}
 use Rattle.std.specs.Str.{bytes_eq}
 use Rattle.conf_keys.specs.declared.conf.Conf.{Conf}
 use Rattle.conf_keys.specs.declared.conf.FlashSection.{FlashSection}

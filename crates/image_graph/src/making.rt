@@ -1,6 +1,10 @@
 ghost use Rattle.std.specs.Prelude.{◌≡◌, ◌≤◌, IfOk, length};
+ghost use Rattle.std.specs.Prelude.{All};
+ghost use Rattle.conf_keys.specs.Within.{IsWithin};
+ghost use Rattle.image_graph.specs.Chains.{families_of};
 ghost use Rattle.image_graph.specs.Graph.{Answers, graph_of, ordered};
-ghost use Rattle.image_graph.specs.Specs.{number_of, spec_names};
+ghost use Rattle.image_graph.specs.Laws.{HasNone, IsOrder};
+ghost use Rattle.image_graph.specs.Within.{IsSpecWithin};
 
 use crate::chains::{cycle, families_of};
 use crate::clashes::{file_clash, section_clash};
@@ -11,23 +15,6 @@ use crate::{Graph, GraphFault, ImageSpec};
 use base_fields::List;
 use conf_sections::Conf;
 use std::alloc::Global;
-
-impl Graph {
-    /// The number of the image of that name; None where none is built. Takes no memory.
-    pub fn find(&self, name: &str) -> Option<u32>
-        requires { length self.now.specs ≤ 64 }
-        ensures { result ≡ number_of (spec_names self.now.specs) name.now }
-    {
-        let mut number = 0;
-        for spec in self.specs.as_slice() {
-            if name == spec.name.text() {
-                return Some(number);
-            }
-            number += 1;
-        }
-        None
-    }
-}
 
 // The images in their order.
 fn ordered(alloc: Global, specs: List<ImageSpec>) -> Result<Graph, GraphFault>
@@ -44,6 +31,13 @@ fn ordered(alloc: Global, specs: List<ImageSpec>) -> Result<Graph, GraphFault>
 pub fn graph(alloc: Global, conf: &Conf) -> Result<Graph, GraphFault>
     ensures answers { Answers (graph_of conf.now) result }
     ensures few { IfOk result (λ graph. length graph.specs ≤ 64) }
+
+    // No chain of children returns, and each image stands once, behind its children.
+    ensures no_cycle { IfOk result (λ graph. HasNone (families_of graph.specs)) }
+    ensures in_order { IfOk result (λ graph. IsOrder (families_of graph.specs) graph.order) }
+
+    // Keys and names are such as they are in the configuration.
+    ensures within { IsWithin conf.now → IfOk result (λ graph. All IsSpecWithin graph.specs) }
 {
     too_many(conf)?;
     no_kind(alloc, conf)?;

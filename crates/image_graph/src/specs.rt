@@ -10,6 +10,26 @@ pub struct Graph {
     pub specs: List<ImageSpec>,
 }
 
+impl Graph {
+    ghost use Rattle.std.specs.Prelude.{◌≡◌, ◌≤◌, length};
+    ghost use Rattle.image_graph.specs.Specs.{number_of, spec_names};
+
+    /// The number of the image of that name; None where none is built. Takes no memory.
+    pub fn find(&self, name: &str) -> Option<u32>
+        requires { length self.now.specs ≤ 64 }
+        ensures { result ≡ number_of (spec_names self.now.specs) name.now }
+    {
+        let mut number = 0;
+        for spec in self.specs.as_slice() {
+            if name == spec.name.text() {
+                return Some(number);
+            }
+            number += 1;
+        }
+        None
+    }
+}
+
 /// An image that is built.
 #[derive(Debug, Drop)]
 pub struct ImageSpec {

@@ -1,5 +1,5 @@
-use Rattle.std.proofs.Common.{◌≡◌, ◌∙◌, suc, ap, rules, map, add-one}
-use Rattle.image_graph.specs.Rows.{leads, row_of}
+use Rattle.std.proofs.Common.{◌∙◌, ap, map, add-one}
+use Rattle.image_graph.specs.Rows.{leads}
 use Rattle.image_graph.proofs.chains.row_of.Goals as goal
 
 pub loop-step-preserved : goal.loop-step-preserved

@@ -1,7 +1,6 @@
 use Rattle.std.proofs.Common.{◌≡◌, ◌∙◌, ◌+◌, ◌++◌, ◌∷◌, [], refl, sym, ap, cond, drop, take, rules}
 use Rattle.std.specs.Option.{option_or}
-use Rattle.conf_keys.specs.declared.conf.ImageSection.{ImageSection}
-use Rattle.image_graph.specs.Clashes.{built_fulls, clash_with, full_of, image_again, image_clash}
+use Rattle.image_graph.specs.Clashes.{clash_with, full_of, image_again, image_clash}
 use Rattle.image_graph.specs.Graph.{Passes}
 use Rattle.image_graph.specs.Images.{is_built}
 use Rattle.image_graph.proofs.ClashLemmas.{again_read, made_read, names_read, passes_same}

@@ -1,4 +1,4 @@
-use Rattle.std.proofs.Common.{◌≡◌, ◌∙◌, sym, ap, rules}
+use Rattle.std.proofs.Common.{◌≡◌, ◌∙◌, sym, rules}
 use Rattle.image_graph.specs.Counts.{first_fault, flash_fault, names_of, no_flash}
 use Rattle.image_graph.specs.Graph.{Passes}
 use Rattle.image_graph.proofs.ClashLemmas.{flash_same, passes_same}

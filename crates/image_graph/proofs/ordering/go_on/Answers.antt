@@ -1,9 +1,9 @@
-use Rattle.std.proofs.Common.{◌≡◌, ◌∙◌, ◌<◌, ◌≤◌, ◌+◌, ◌-◌, ◌++◌, ◌∷◌, [], length, get_or, false, true, sym, ap, rules, arith}
+use Rattle.std.proofs.Common.{◌≡◌, ◌∙◌, ◌<◌, ◌≤◌, ◌+◌, ◌-◌, ◌++◌, ◌∷◌, [], length, get_or, false, true, ap, rules, arith}
 use Rattle.std.proofs.lemmas.Grind.{common_steps}
 use Rattle.std.proofs.lemmas.List.{length_push}
 use Rattle.image_graph.specs.Chains.{children}
 use Rattle.image_graph.specs.Order.{is_placed}
-use Rattle.image_graph.specs.Path.{left, walked}
+use Rattle.image_graph.specs.Path.{walked}
 use Rattle.image_graph.proofs.PathLemmas.{begun, left_new, left_none, left_past, past_child, walked_new, walked_no_room, walked_none, walked_placed}
 use Rattle.image_graph.proofs.ordering.go_on.Goals.{else-len-families-via-then-len-families+else-not-is_placed, else-len-families-via-else-len-families}
 use Rattle.image_graph.proofs.ordering.go_on.Goals as goal

@@ -1,5 +1,4 @@
 use Rattle.std.proofs.Common.{◌≡◌, ◌∙◌, sym, ap, Some, true, rules}
-use Rattle.std.specs.List.{position}
 use Rattle.std.specs.Str.{bytes_eq}
 use Rattle.image_graph.specs.declared.specs.ImageSpec.{ImageSpec}
 use Rattle.image_graph.specs.Specs.{number_of, spec_names}
