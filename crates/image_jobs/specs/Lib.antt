@@ -1,6 +1,5 @@
 -- definitions that contracts cite
 pub mod Build
-pub mod FullName
 pub mod Layout
 pub mod Request
 pub mod Run

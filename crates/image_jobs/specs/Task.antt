@@ -15,7 +15,7 @@ use Rattle.image_jobs.specs.declared.request.Request.{Request}
 use Rattle.image_jobs.specs.declared.task.OneImage.{OneImage}
 use Rattle.image_jobs.specs.declared.task.Task.{Task}
 use Rattle.image_jobs.specs.declared.task.Task.TheVariants.{Nothing, Image}
-use Rattle.image_jobs.specs.FullName.{full_name}
+use Rattle.file_names.specs.FullName.{full_name}
 
 abbrev pub is_bare : TableKind → Bool
 is_bare table.Bare = true

@@ -1,9 +1,8 @@
-ghost use Rattle.std.specs.Prelude.{◌≡◌, map, string_bytes, IfOk, IsErrOf, None, Some, [], unwrap_or};
+ghost use Rattle.std.specs.Prelude.{◌≡◌, map, string_bytes, IfOk, IsErrOf, None, Some, unwrap_or};
 ghost use Rattle.job_words.specs.Jobs.{job_of};
-ghost use Rattle.image_jobs.specs.FullName.{full_name};
 ghost use Rattle.image_jobs.specs.Request.{request_of};
 
-use base_fields::{Name, NoMemory};
+use base_fields::Name;
 use job_words::{Job, WordFault, read_words};
 use std::alloc::Global;
 
@@ -43,19 +42,4 @@ pub fn path<'a>(words: &'a Option<Name>, conf: &'a Name) -> &'a str
         Some(path) => path.text(),
         None => conf.text(),
     }
-}
-
-/// The full name of a file under a path.
-pub fn under(alloc: Global, path: &str, name: &str) -> Result<Name, NoMemory>
-    ensures { IfOk result (λ full. full ≡ full_name path.now name.now) }
-{
-    if name.starts_with('/') || path.is_empty() {
-        return Name::of(alloc, name);
-    }
-    let mut full = String::from_str(alloc, path)?;
-    if !path.ends_with('/') {
-        full.push_str("/")?;
-    }
-    full.push_str(name)?;
-    Ok(Name::from_string(full))
 }

@@ -4,9 +4,10 @@ ghost use Rattle.std.specs.List.{list_any};
 ghost use Rattle.std.specs.Str.{bytes_eq};
 ghost use Rattle.image_jobs.specs.Task.{IsApart, has_gpt_defaults, has_mbr_defaults, has_plain_flags, is_unmarked, is_unplaced, is_untyped, is_disk, is_plain_disk, is_plain_image, is_plain_part, named, of_image, of_images, of_part, only_part, stands_alone, task_of};
 
-use crate::request::{Request, path, under};
+use crate::request::{Request, path};
 use base_fields::{Name, NoMemory, TableKind};
 use conf_sections::{Conf, HdKeys, ImageSection, Kind, PartitionSection};
+use file_names::full_name;
 use std::alloc::Global;
 
 // 0FC63DAF-8483-4772-8E79-3D69D8477DE4.
@@ -133,13 +134,13 @@ fn named(
     ensures { IfOk result (λ one. one ≡ named request.now conf.now image.now part.now source.now) }
 {
     Ok(OneImage {
-        image: under(
+        image: full_name(
             alloc,
             path(&request.output, &conf.output),
             image.name.text(),
         )?,
         part: Name::of(alloc, part.name.text())?,
-        source: under(alloc, path(&request.input, &conf.input), source)?,
+        source: full_name(alloc, path(&request.input, &conf.input), source)?,
     })
 }
 

@@ -1,0 +1,9 @@
+//! Where files stand: their full names under a path.
+#![tactic(auto)]
+
+mod names;
+
+pub use names::full_name;
+
+#[cfg(test)]
+mod tests;
