@@ -1,0 +1,40 @@
+-- The laws of block maps and of units.
+use Rattle.std.specs.Prelude.{◌≡◌, ℕ, ◌+◌, ◌*◌, ◌<◌, ◌≤◌, ◌↔◌, List, length, slice_index_or, All, AllPairs}
+use Rattle.std.specs.Int.{div_ceil}
+use Rattle.sha2.specs.Sha256.{sha256}
+use Rattle.base_fields.specs.declared.spans.Span.{Span}
+use Rattle.span_cover.specs.Cover.{covers}
+use Rattle.block_map.specs.declared.maps.BlockMap.{BlockMap}
+use Rattle.block_map.specs.declared.maps.Range.{Range}
+use Rattle.block_map.specs.Maps.{HasDigestSet, IsBareMapOf, IsMap, IsMapOf, IsMapTo, is_mapped, part_of, range_span}
+use Rattle.block_map.specs.Units.{units_of}
+
+-- a map's last blocks begin below the size exactly where their numbers are below the block count, the size in blocks
+-- rounded up
+abbrev pub BelowTheCount : Type 0
+BelowTheCount = (last size block : ℕ) → 0 < block → (last * block < size) ↔ (last < div_ceil size block)
+
+-- a map without digests, of which the digest of each range is set in turn, becomes the map of the image
+abbrev pub DigestsBegin : Type 0
+DigestsBegin = (spans : List Span) (bytes : List ℕ) (block : ℕ) (m : BlockMap) → IsBareMapOf spans (length bytes) block m → IsMapTo spans bytes block 0 m
+
+abbrev pub DigestsGoOn : Type 0
+DigestsGoOn = (spans : List Span) (bytes : List ℕ) (block k : ℕ) (old new : BlockMap) (d : Range) → IsMapTo spans bytes block k old → k < length old.ranges → HasDigestSet old k (sha256 (part_of (range_span old (slice_index_or old.ranges k d)) bytes)) new → IsMapTo spans bytes block (k + 1) new
+
+abbrev pub DigestsEnd : Type 0
+DigestsEnd = (spans : List Span) (bytes : List ℕ) (block : ℕ) (m : BlockMap) → IsMapTo spans bytes block (length m.ranges) m → IsMapOf spans bytes block m
+
+-- an image in which these spans are covered has one map
+abbrev pub OneMap : Type 0
+OneMap = (spans : List Span) (bytes : List ℕ) (block : ℕ) (m n : BlockMap) → IsMapOf spans bytes block m → IsMapOf spans bytes block n → m ≡ n
+
+-- spans are the units of a map: none is empty or larger than a unit, they ascend and don't meet, and together they
+-- are the mapped bytes
+pub record AreUnitsOf (m : BlockMap) (unit : ℕ) (units : List Span) : Type 0 where
+  pub filled : All (λ u. 0 < u.len) units
+  pub most : All (λ u. u.len ≤ unit) units
+  pub ascend : AllPairs (λ u later. u.at + u.len ≤ later.at) units
+  pub exact : (o : ℕ) → covers units o ≡ is_mapped m o
+
+abbrev pub UnitsAreMapped : Type 0
+UnitsAreMapped = (m : BlockMap) (unit : ℕ) → IsMap m → 0 < unit → AreUnitsOf m unit (units_of m unit)
