@@ -1,0 +1,4 @@
+-- lemmas
+mod Cutting
+mod Pieces
+mod Ranges
