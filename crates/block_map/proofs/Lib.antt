@@ -1,4 +1,5 @@
 -- lemmas
 mod Cutting
+mod Index
 mod Pieces
 mod Ranges

@@ -1,11 +1,13 @@
-ghost use Rattle.std.specs.Prelude.{◌≡◌, ◌<◌, ◌≤◌, IfOk, IfErr, OnOk, Some, length, slice_get, slice_index_or, []};
-ghost use Rattle.block_map.specs.Maps.{IsMap, IsPowerBetween};
+ghost use Rattle.std.specs.Prelude.{◌≡◌, ◌+◌, ◌*◌, ◌^◌, ◌<◌, ◌≤◌, IfOk, IfErr, OnOk, Some, length, slice_get, slice_index_or, []};
+ghost use Rattle.block_map.specs.Maps.{IsMap, IsPowerBetween, range_span};
+ghost use Rattle.block_map.specs.Pieces.{piece, pieces};
+ghost use Rattle.block_map.specs.Index.{IsIndex, rows_of};
 ghost use Rattle.block_map.specs.Units.{IsRangeOf, first_of, joined, max_units, units_by_range, units_of};
 ghost use Rattle.block_map.specs.Faults.{IsCause};
 
-use crate::maps::BlockMap;
+use crate::maps::{BlockMap, Range};
 use base_fields::Span;
-use std::alloc::{AllocError, AllocFailed, Global};
+use std::alloc::{AllocError, Global};
 use std::marker::Model;
 use thiserror::Error;
 
@@ -63,7 +65,88 @@ impl BlockMap {
         ensures few { OnOk result (length (units_of self.now unit) ≤ max_units) }
         ensures err { IfErr result (λ fault. IsCause (length (units_of self.now unit)) fault) }
     {
-        Err(UnitFault::NoMemory)
+        let unit = u64::from(unit);
+        let count = count_units(self, unit);
+        if count > MAX_UNITS {
+            return Err(UnitFault::TooManyUnits {
+                count,
+                limit: MAX_UNITS,
+            });
+        }
+        match parts_of(alloc, self, unit) {
+            Ok(parts) => Ok(Units { unit, count, parts }),
+            Err(_) => Err(UnitFault::NoMemory),
+        }
+    }
+}
+
+/// How many units of `unit` bytes a map has.
+fn count_units(map: &BlockMap, unit: u64) -> u64
+    requires map { IsMap map.now }
+    requires unit { 65536 ≤ unit }
+    ensures { result ≡ length (units_of map.now unit) }
+{
+    let mut count = 0;
+    for range in map.ranges.as_slice() {
+        count += pieces_in(bytes_of(map, range), unit);
+    }
+    count
+}
+
+/// The index of a map's units of `unit` bytes.
+fn parts_of(alloc: Global, map: &BlockMap, unit: u64) -> Result<Vec<Part>, AllocError>
+    requires map { IsMap map.now }
+    requires unit { 65536 ≤ unit }
+    ensures index { IfOk result (λ parts. IsIndex unit (length (units_of map.now unit)) parts.items) }
+    ensures rows { IfOk result (λ parts. rows_of unit parts.items ≡ units_by_range map.now unit) }
+{
+    let mut parts = Vec::new(alloc);
+    let mut first = 0;
+    for range in map.ranges.as_slice() {
+        let span = bytes_of(map, range);
+        parts.push(Part { first, span })?;
+        first += pieces_in(span, unit);
+    }
+    Ok(parts)
+}
+
+/// The bytes of a range of a map, which end where the image does.
+fn bytes_of(map: &BlockMap, range: &Range) -> Span
+    requires map { IsMap map.now }
+    requires ordered { range.now.first ≤ range.now.last }
+    requires below { range.now.last * map.now.block < map.now.size }
+    ensures exact { result ≡ range_span map.now range.now }
+    ensures filled { 0 < result.len }
+    ensures bounded { result.at + result.len ≤ 2 ^ 43 }
+{
+    let block = u64::from(map.block);
+    let at = range.first * block;
+    let end = (range.last + 1) * block;
+    Span {
+        at,
+        len: map.size.min(end) - at,
+    }
+}
+
+/// How many pieces of `unit` bytes a span is cut into.
+fn pieces_in(span: Span, unit: u64) -> u64
+    requires { 0 < unit }
+    ensures exact { result ≡ length (pieces unit span) }
+    ensures few { span.len ≤ 2 ^ 43 → 65536 ≤ unit → result ≤ 2 ^ 27 }
+{
+    span.len.div_ceil(unit)
+}
+
+/// Piece number `j` of those of `unit` bytes that a span is cut into.
+fn piece_in(span: Span, unit: u64, j: u64) -> Span
+    requires within { j * unit < span.len }
+    requires bounded { span.at + span.len ≤ 2 ^ 43 }
+    ensures { result ≡ piece unit span j }
+{
+    let done = j * unit;
+    Span {
+        at: span.at + done,
+        len: unit.min(span.len - done),
     }
 }
 
@@ -82,11 +165,7 @@ impl Units {
         ensures { slice_get (joined self.now) k ≡ Some result }
     {
         let part = self.parts[self.range_of(k) as usize];
-        let done = (k - part.first) * self.unit;
-        Span {
-            at: part.span.at + done,
-            len: self.unit.min(part.span.len - done),
-        }
+        piece_in(part.span, self.unit, k - part.first)
     }
 
     /// The number of the range that has unit `k`.
@@ -111,6 +190,6 @@ impl Units {
         requires { r < length self.now }
         ensures { result ≡ length (slice_index_or self.now r []) }
     {
-        self.parts[r as usize].span.len.div_ceil(self.unit)
+        pieces_in(self.parts[r as usize].span, self.unit)
     }
 }
