@@ -59,11 +59,11 @@ rows_rise unit parts i j le =
     let whole : take i (take j parts) ++ drop i (take j parts) ≡ take j parts = take-append-drop i (take j parts) in
     let front : take i (take j parts) ≡ take i parts = take-take i j parts le in
     let more : length (joined (rows_of unit (take i parts ++ drop i (take j parts)))) ≡ length (joined (rows_of unit (take i parts))) + length (joined (rows_of unit (drop i (take j parts)))) =
-      ap (λ (l : List (List Span)). length (joined l)) (map-append (λ (q : Part). pieces unit q.span) (take i parts) (drop i (take j parts)))
-      ∙ ap (λ (l : List Span). length l) (flat_map-append (λ (l : List Span). l) (rows_of unit (take i parts)) (rows_of unit (drop i (take j parts))))
-      ∙ length-append (joined (rows_of unit (take i parts))) (joined (rows_of unit (drop i (take j parts)))) in
+    ap (λ (l : List (List Span)). length (joined l)) (map-append (λ (q : Part). pieces unit q.span) (take i parts) (drop i (take j parts)))
+    ∙ ap (λ (l : List Span). length l) (flat_map-append (λ (l : List Span). l) (rows_of unit (take i parts)) (rows_of unit (drop i (take j parts))))
+    ∙ length-append (joined (rows_of unit (take i parts))) (joined (rows_of unit (drop i (take j parts)))) in
     let same : length (joined (rows_of unit (take j parts))) ≡ length (joined (rows_of unit (take i parts ++ drop i (take j parts)))) =
-      ap (λ (l : List Part). length (joined (rows_of unit l))) (sym whole ∙ ap (λ (l : List Part). l ++ drop i (take j parts)) front) in
+    ap (λ (l : List Part). length (joined (rows_of unit l))) (sym whole ∙ ap (λ (l : List Part). l ++ drop i (take j parts)) front) in
     omega arith
 
 -- the numbers of the first units rise
@@ -89,12 +89,12 @@ range_found unit count parts k behind h inside point bound =
         there = omega (arith, rows_length unit parts);
         from = let early : (get_or parts (behind - 1) d).first ≤ k = point.0 (behind - 1) d (omega arith) (omega arith) in omega (arith, part_first unit count parts (behind - 1) d h (omega arith));
         to =
-          let next : behind - 1 + 1 ≡ behind = omega arith in
-          rw next
-          (elim (cases_lt behind (length parts)) [
-            | inl more ↦ let late : k < (get_or parts behind d).first = point.1 behind d (omega arith) more in omega (arith, part_first unit count parts behind d h more)
-            | inr last ↦ rw (take_all behind (rows_of unit parts) (omega (arith, rows_length unit parts))) inside
-          ]);
+            let next : behind - 1 + 1 ≡ behind = omega arith in
+            rw next
+            (elim (cases_lt behind (length parts)) [
+              | inl more ↦ let late : k < (get_or parts behind d).first = point.1 behind d (omega arith) more in omega (arith, part_first unit count parts behind d h more)
+              | inr last ↦ rw (take_all behind (rows_of unit parts) (omega (arith, rows_length unit parts))) inside
+            ]);
       },
     )
 

@@ -1,7 +1,7 @@
-ghost use Rattle.std.specs.Prelude.{◌≡◌, ◌^◌, ◌<◌, ◌≤◌, IfOk, length};
-ghost use Rattle.block_map.specs.Maps.{HasDigestSet, IsBareMapOf, IsMap, IsPowerBetween};
+ghost use Rattle.std.specs.Prelude.{◌≡◌, ◌+◌, ◌^◌, ◌<◌, ◌≤◌, All, IfOk, length, map};
+ghost use Rattle.block_map.specs.Maps.{HasDigestSet, IsBareMapOf, IsMap, IsPowerBetween, run_of};
 
-use base_fields::{List, NoMemory};
+use base_fields::{List, NoMemory, Span};
 use span_cover::Cover;
 use std::alloc::Global;
 
@@ -46,7 +46,13 @@ impl BlockMap {
         ensures map { IfOk result (λ map. IsMap map) }
         ensures exact { IfOk result (λ map. IsBareMapOf cover.now size block map) }
     {
-        Err(NoMemory)
+        let runs = cover.runs(alloc, size, block)?;
+        let ranges = ranges_of(alloc, runs.as_slice())?;
+        Ok(BlockMap {
+            size,
+            block,
+            ranges,
+        })
     }
 
     /// Sets the digest of range `k`. Takes no memory.
@@ -64,4 +70,23 @@ impl BlockMap {
             },
         );
     }
+}
+
+/// The ranges of runs of blocks, with no digests.
+fn ranges_of(alloc: Global, runs: &[Span]) -> Result<List<Range>, NoMemory>
+    requires filled { All (λ run. 0 < run.len) runs.now }
+    requires bounded { All (λ run. run.at + run.len ≤ 2 ^ 43) runs.now }
+    ensures runs { IfOk result (λ ranges. map run_of ranges ≡ runs.now) }
+    ensures filled { IfOk result (λ ranges. All (λ r. r.first ≤ r.last) ranges) }
+    ensures bare { IfOk result (λ ranges. All (λ r. r.digest ≡ None) ranges) }
+{
+    let mut ranges = List::new(alloc);
+    for run in runs {
+        ranges.push(Range {
+            first: run.at,
+            last: run.at + run.len - 1,
+            digest: None,
+        })?;
+    }
+    Ok(ranges)
 }

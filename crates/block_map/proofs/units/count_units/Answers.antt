@@ -17,10 +17,10 @@ overflow_add-count c =
 pub loop-range-preserved : goal.loop-range-preserved
 loop-range-preserved c = record {
   exact =
-    ap (λ (n : ℕ). n + c.pieces_in-count.result) c.loop-range.invariant.exact
-    ∙ ap (λ (n : ℕ). length (joined (map (λ (r : Range). pieces c.args.unit (range_span c.args.map.now r)) (take c.loop-range.range-index c.as_slice-range-items.result.now))) + n)
+      ap (λ (n : ℕ). n + c.pieces_in-count.result) c.loop-range.invariant.exact
+      ∙ ap (λ (n : ℕ). length (joined (map (λ (r : Range). pieces c.args.unit (range_span c.args.map.now r)) (take c.loop-range.range-index c.as_slice-range-items.result.now))) + n)
       (c.pieces_in-count.ensures.exact ∙ ap (λ (s : Span). length (pieces c.args.unit s)) c.bytes_of.ensures.exact)
-    ∙ sym (rows_more (λ (r : Range). pieces c.args.unit (range_span c.args.map.now r)) c.as_slice-range-items.result.now c.loop-range.range-index _ c.loop-range-test.true);
+      ∙ sym (rows_more (λ (r : Range). pieces c.args.unit (range_span c.args.map.now r)) c.as_slice-range-items.result.now c.loop-range.range-index _ c.loop-range-test.true);
   few = omega (arith, c.loop-range.invariant.few, c.pieces_in-count.ensures.few, c.bytes_of.ensures.bounded, c.requires.unit);
 }
 
@@ -28,4 +28,4 @@ pub returns : goal.returns
 returns c =
     c.loop-range.invariant.exact
     ∙ ap (λ (l : List Range). length (joined (map (λ (r : Range). pieces c.args.unit (range_span c.args.map.now r)) l)))
-      (take_all c.loop-range.range-index c.as_slice-range-items.result.now (omega arith) ∙ c.as_slice-range-items.ensures)
+    (take_all c.loop-range.range-index c.as_slice-range-items.result.now (omega arith) ∙ c.as_slice-range-items.ensures)

@@ -8,5 +8,5 @@ abbrev pub invariant-loop-range : goal.invariant-loop-range
 invariant-loop-range l = record {
   index : IsIndex l.unit l.first l.parts.items;
   rows : rows_of l.unit l.parts.items ≡ map (λ r. pieces l.unit (range_span l.map r)) (take l.range-index l.range-items);
-  few : l.first ≤ l.range-index * 2 ^ 27
+  few : l.first ≤ l.range-index * 2 ^ 27;
 }

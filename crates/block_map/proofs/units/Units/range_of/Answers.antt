@@ -10,13 +10,13 @@ use Rattle.block_map.proofs.units.Units.range_of.Goals as goal
 found : (c : goal.After-partition_point-behind) → (0 < c.partition_point-behind.result) × IsRangeOf c.args.self.now c.args.k (c.partition_point-behind.result - 1)
 found c =
     let rise : IsNonDecreasingBy (λ (p : Part). p.first) c.deref.result.now =
-      subst (λ (ps : List Part). IsNonDecreasingBy (λ (p : Part). p.first) ps) (sym c.deref.ensures.value)
-      (firsts_rise c.self.inside.unit c.self.inside.count c.self.inside.parts.items c.self.invariant) in
+    subst (λ (ps : List Part). IsNonDecreasingBy (λ (p : Part). p.first) ps) (sym c.deref.ensures.value)
+    (firsts_rise c.self.inside.unit c.self.inside.count c.self.inside.parts.items c.self.invariant) in
     let point : IsPartitionPoint (λ (p : Part). p.first ≤ c.args.k) (λ (p : Part). c.args.k < p.first) c.deref.result.now c.partition_point-behind.result =
-      first_point c.deref.result.now c.args.k c.partition_point-behind.result
-      (IsPartitionPoint-from_clause (λ (p : Part). leb p.first c.args.k) c.deref.result.now c.partition_point-behind.result c.partition_point-behind.ensures.partitioned
-      (IsPartitionedBy-leb (λ (p : Part). p.first) c.deref.result.now c.args.k rise)
-      (λ a r f' k. search rules)) in
+    first_point c.deref.result.now c.args.k c.partition_point-behind.result
+    (IsPartitionPoint-from_clause (λ (p : Part). leb p.first c.args.k) c.deref.result.now c.partition_point-behind.result c.partition_point-behind.ensures.partitioned
+    (IsPartitionedBy-leb (λ (p : Part). p.first) c.deref.result.now c.args.k rise)
+    (λ a r f' k. search rules)) in
     range_seen c.self.inside.unit c.self.inside.count c.self.inside.parts.items c.args.self.now c.args.k c.partition_point-behind.result c.self.invariant c.self.view_is c.requires
     (subst (λ (ps : List Part). IsPartitionPoint (λ (p : Part). p.first ≤ c.args.k) (λ (p : Part). c.args.k < p.first) ps c.partition_point-behind.result) c.deref.ensures.value point)
     (omega (arith, c.partition_point-behind.ensures.bound))
