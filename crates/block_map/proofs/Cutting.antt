@@ -8,16 +8,14 @@ use Rattle.std.specs.Prelude.{All, AllPairs}
 use Rattle.base_fields.specs.declared.spans.Span.{Span}
 use Rattle.span_cover.specs.Cover.{covers, has}
 use Rattle.span_cover.proofs.Spans.{Holder, covers_at, holder}
+use Rattle.block_map.specs.Laws.{AreCutFrom}
 use Rattle.block_map.specs.Pieces.{pieces}
 use Rattle.block_map.specs.Units.{joined}
 use Rattle.block_map.proofs.Pieces.{piece_ends, piece_filled, piece_most, pieces_ascend, pieces_exact}
 
--- the pieces of spans, which these are
-pub record AreCut (unit : ℕ) (spans us : List Span) : Type 0 where
-  pub filled : All (λ u. 0 < u.len) us
-  pub most : All (λ u. u.len ≤ unit) us
-  pub ascend : AllPairs (λ u later. u.at + u.len ≤ later.at) us
-  pub exact : (o : ℕ) → covers us o ≡ covers spans o
+-- cut from the offsets of spans
+abbrev pub AreCut : ℕ → List Span → List Span → Type 0
+AreCut unit spans us = AreCutFrom unit (covers spans) us
 
 -- what doesn't begin before a place where none of the spans begins
 no_earlier : (unit : ℕ) (spans us : List Span) (b : ℕ) → AreCut unit spans us → All (λ s. b ≤ s.at) spans → All (λ u. b ≤ u.at) us
@@ -65,3 +63,6 @@ cut_all {X} unit f (x ∷ xs) some ascend =
       ascend = pairs_append (pieces unit (f x)) us ((f x).at + (f x).len) (pieces_ascend unit (f x) some) rest.ascend (piece_ends unit (f x) some) (no_earlier unit (map f xs) us ((f x).at + (f x).len) rest far);
       exact = λ o. list_any-append (λ s. has s o) (pieces unit (f x)) us ∙ ap (λ (b : Bool). b || covers us o) (pieces_exact unit (f x) o some) ∙ ap (λ (b : Bool). has (f x) o || b) (rest.exact o);
     }
+
+pub span_cut : (unit : ℕ) (s : Span) → 0 < unit → AreCutFrom unit (has s) (pieces unit s)
+span_cut unit s some = record { filled = piece_filled unit s some; most = piece_most unit s some; ascend = pieces_ascend unit s some; exact = λ o. pieces_exact unit s o some }

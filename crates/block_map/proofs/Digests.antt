@@ -12,7 +12,7 @@ use Rattle.span_cover.proofs.Unique.{one_list}
 use Rattle.block_map.specs.declared.maps.BlockMap.{BlockMap}
 use Rattle.block_map.specs.declared.maps.Range.{Range}
 use Rattle.block_map.specs.Maps.{HasDigest, HasDigestSet, HasRunsOf, IsMapOf, IsMapTo, part_of, range_span, run_of, runs_of}
-use Rattle.block_map.proofs.Runs.{filled_kept, runs_kept}
+use Rattle.block_map.proofs.Runs.{runs_filled, runs_kept}
 
 -- a span of a range, by a map's size and block
 span_in : Range → ℕ → ℕ → Span
@@ -34,7 +34,6 @@ digests_go_on spans bytes block k old new d h below is =
         same_size = is.size ∙ h.runs.same_size;
         same_block = is.block ∙ h.runs.same_block;
         runs = subst (λ (l : List Span). AreTouchedRuns spans (length bytes) block l) (sym (runs_kept old new k d digest is)) h.runs.runs;
-        filled = filled_kept old new k d digest is below h.runs.filled;
       };
       digests = λ j e j<.
           let near : j < k + 1 = omega (arith, length-take (k + 1) new.ranges) in
@@ -98,4 +97,4 @@ one_map spans bytes block m n h k =
     (λ t. (h.runs.runs.exact b).1 ((k.runs.runs.exact b).0 t))) in
     let digests : All (HasDigest m bytes) n.ranges = λ i d below.
     k.digests i d below ∙ ap (λ (bs : List ℕ). Some bs) (same_digest n m bytes (get_or n.ranges i d) size blocks) in
-    same_map m n size blocks (same_ranges m bytes m.ranges n.ranges runs h.runs.filled k.runs.filled h.digests digests)
+    same_map m n size blocks (same_ranges m bytes m.ranges n.ranges runs (runs_filled spans (length bytes) block m h.runs) (runs_filled spans (length bytes) block n k.runs) h.digests digests)

@@ -54,17 +54,33 @@ some_parts : (unit k : ℕ) (parts : List Part) → k < length (joined (rows_of 
 some_parts unit k [] h = absurd (omega arith)
 some_parts unit k (p ∷ parts) h = omega arith
 
+first_rises : (rows : List (List Span)) (i j : ℕ) → i ≤ j → first_of rows i ≤ first_of rows j
+first_rises rows i j le =
+    let whole : take i (take j rows) ++ drop i (take j rows) ≡ take j rows = take-append-drop i (take j rows) in
+    let front : take i (take j rows) ≡ take i rows = take-take i j rows le in
+    let more : length (joined (take i rows ++ drop i (take j rows))) ≡ first_of rows i + length (joined (drop i (take j rows))) =
+    ap (λ (l : List Span). length l) (flat_map-append (λ (l : List Span). l) (take i rows) (drop i (take j rows)))
+    ∙ length-append (joined (take i rows)) (joined (drop i (take j rows))) in
+    let same : first_of rows j ≡ length (joined (take i rows ++ drop i (take j rows))) =
+    ap (λ (l : List (List Span)). length (joined l)) (sym whole ∙ ap (λ (l : List (List Span)). l ++ drop i (take j rows)) front) in
+    omega arith
+
 rows_rise : (unit : ℕ) (parts : List Part) (i j : ℕ) → i ≤ j → length (joined (rows_of unit (take i parts))) ≤ length (joined (rows_of unit (take j parts)))
 rows_rise unit parts i j le =
-    let whole : take i (take j parts) ++ drop i (take j parts) ≡ take j parts = take-append-drop i (take j parts) in
-    let front : take i (take j parts) ≡ take i parts = take-take i j parts le in
-    let more : length (joined (rows_of unit (take i parts ++ drop i (take j parts)))) ≡ length (joined (rows_of unit (take i parts))) + length (joined (rows_of unit (drop i (take j parts)))) =
-    ap (λ (l : List (List Span)). length (joined l)) (map-append (λ (q : Part). pieces unit q.span) (take i parts) (drop i (take j parts)))
-    ∙ ap (λ (l : List Span). length l) (flat_map-append (λ (l : List Span). l) (rows_of unit (take i parts)) (rows_of unit (drop i (take j parts))))
-    ∙ length-append (joined (rows_of unit (take i parts))) (joined (rows_of unit (drop i (take j parts)))) in
-    let same : length (joined (rows_of unit (take j parts))) ≡ length (joined (rows_of unit (take i parts ++ drop i (take j parts)))) =
-    ap (λ (l : List Part). length (joined (rows_of unit l))) (sym whole ∙ ap (λ (l : List Part). l ++ drop i (take j parts)) front) in
+    let low : first_of (rows_of unit parts) i ≡ length (joined (rows_of unit (take i parts))) = ap (λ (l : List (List Span)). length (joined l)) (take-map (λ (p : Part). pieces unit p.span) i parts) in
+    let high : first_of (rows_of unit parts) j ≡ length (joined (rows_of unit (take j parts))) = ap (λ (l : List (List Span)). length (joined l)) (take-map (λ (p : Part). pieces unit p.span) j parts) in
+    let rise : first_of (rows_of unit parts) i ≤ first_of (rows_of unit parts) j = first_rises (rows_of unit parts) i j le in
     omega arith
+
+-- a unit is in one range
+no_earlier : (rows : List (List Span)) (k r s : ℕ) → IsRangeOf rows k r → IsRangeOf rows k s → r ≤ s
+no_earlier rows k r s h g = elim (cases_lt s r) [
+  | inl less ↦ let rise : first_of rows (s + 1) ≤ first_of rows r = first_rises rows (s + 1) r (omega arith) in absurd (omega (arith, h.from, g.to))
+  | inr fine ↦ fine
+]
+
+pub one_range : (rows : List (List Span)) (k r s : ℕ) → IsRangeOf rows k r → IsRangeOf rows k s → r ≡ s
+one_range rows k r s h g = let a : r ≤ s = no_earlier rows k r s h g in let b : s ≤ r = no_earlier rows k s r g h in omega arith
 
 -- the numbers of the first units rise
 pub firsts_rise : (unit count : ℕ) (parts : List Part) → IsIndex unit count parts → IsNonDecreasingBy (λ p. p.first) parts
@@ -140,3 +156,8 @@ range_seen unit count parts rows k behind h view inside point bound =
 
 pub first_point : (parts : List Part) (k i : ℕ) → IsPartitionPoint (λ p. leb p.first k ≡ true) (λ p. leb p.first k ≡ false) parts i → IsPartitionPoint (λ p. p.first ≤ k) (λ p. k < p.first) parts i
 first_point parts k i point = (λ j d low high. leb-true _ _ (point.0 j d low high), λ j d low high. leb-false _ _ (point.1 j d low high))
+
+pub row_seen : (unit : ℕ) (parts : List Part) (rows : List (List Span)) (r : ℕ) (p : Part) → rows_of unit parts ≡ rows → r < length rows → p ≡ get_or parts r p → get_or rows r [] ≡ pieces unit p.span
+row_seen unit parts rows r p view below is =
+    let many : length (rows_of unit parts) ≡ length rows = ap (λ (l : List (List Span)). length l) view in
+    ap (λ (l : List (List Span)). get_or l r []) (sym view) ∙ row_at unit parts r p [] (omega (arith, rows_length unit parts)) ∙ ap (λ (q : Part). pieces unit q.span) (sym is)

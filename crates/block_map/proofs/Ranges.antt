@@ -1,8 +1,9 @@
 -- The bytes of a map's ranges.
-use Rattle.std.proofs.Common.{◌≡◌, ℕ, suc, ◌+◌, ◌-◌, ◌*◌, ◌/◌, ◌%◌, ◌<◌, ◌≤◌, min, List, [], ◌∷◌, length, get_or, map, Bool, true, false, ◌||◌, ◌&&◌, inl, inr, refl, sym, ap, ◌∙◌, arith, mul-le-mul_right}
+use Rattle.std.proofs.Common.{◌≡◌, ℕ, suc, ◌+◌, ◌-◌, ◌*◌, ◌/◌, ◌%◌, ◌<◌, ◌≤◌, min, List, [], ◌∷◌, length, get_or, map, Bool, true, false, ◌||◌, ◌&&◌, inl, inr, refl, sym, subst, ap, ◌∙◌, arith, mul-le-mul_right}
 use Rattle.std.proofs.lemmas.Bool.{cases_lt}
 use Rattle.std.proofs.lemmas.Bool.Decides.{nat_tests}
 use Rattle.std.proofs.lemmas.Nat.{div-add-mod', div_below, le-div, mod_below, row_fits}
+use Rattle.std.proofs.lemmas.List.{get_or-map}
 use Rattle.std.proofs.lemmas.List.Elements.{All-head, All-tail}
 use Rattle.std.specs.Prelude.{All, AllPairs, nat_lt}
 use Rattle.base_fields.specs.declared.spans.Span.{Span}
@@ -11,9 +12,10 @@ use Rattle.span_cover.proofs.Spans.{has_in, in_has, same_bool}
 use Rattle.block_map.specs.declared.maps.BlockMap.{BlockMap}
 use Rattle.block_map.specs.declared.maps.Range.{Range}
 use Rattle.block_map.specs.Maps.{IsMap, is_mapped, range_span, run_of, runs_of}
-use Rattle.block_map.specs.Laws.{AreUnitsOf}
-use Rattle.block_map.specs.Units.{units_of}
-use Rattle.block_map.proofs.Cutting.{AreCut, cut_all}
+use Rattle.block_map.specs.Laws.{AreCutFrom}
+use Rattle.block_map.specs.Pieces.{pieces}
+use Rattle.block_map.specs.Units.{units_by_range, units_of}
+use Rattle.block_map.proofs.Cutting.{AreCut, cut_all, span_cut}
 
 -- a range has bytes, and they end below where the next block would begin
 pub record IsSpan (m : BlockMap) (r : Range) : Type 0 where
@@ -83,7 +85,13 @@ spans_exact m (r ∷ rs) o some order =
     ∙ ap (λ (b : Bool). (nat_lt o m.size && has (run_of r) (o / m.block)) || b) (spans_exact m rs o some (All-tail (λ (x : Range). x.first ≤ x.last) r rs order))
     ∙ spread (nat_lt o m.size) (has (run_of r) (o / m.block)) (covers (map run_of rs) (o / m.block))
 
-pub units_are : (m : BlockMap) (unit : ℕ) → IsMap m → 0 < unit → AreUnitsOf m unit (units_of m unit)
+pub units_are : (m : BlockMap) (unit : ℕ) → IsMap m → 0 < unit → AreCutFrom unit (is_mapped m) (units_of m unit)
 units_are m unit h some =
     let cut : AreCut unit (map (range_span m) m.ranges) (units_of m unit) = cut_all unit (range_span m) m.ranges some (spans_ascend m h) in
     record { filled = cut.filled; most = cut.most; ascend = cut.ascend; exact = λ o. cut.exact o ∙ spans_exact m m.ranges o (omega (arith, h.block.not_below)) h.filled }
+
+pub range_cut : (m : BlockMap) (unit r : ℕ) (d : Range) → 0 < unit → r < length m.ranges → AreCutFrom unit (has (range_span m (get_or m.ranges r d))) (get_or (units_by_range m unit) r [])
+range_cut m unit r d some below =
+    subst (λ (us : List Span). AreCutFrom unit (has (range_span m (get_or m.ranges r d))) us)
+    (sym (get_or-map (λ (x : Range). pieces unit (range_span m x)) m.ranges r d [] below))
+    (span_cut unit (range_span m (get_or m.ranges r d)) some)

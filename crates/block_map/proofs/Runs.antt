@@ -27,13 +27,19 @@ runs_bounded spans runs size block h some small k d below =
     let more : (get_or runs k d).at + (get_or runs k d).len - 1 ≤ ((get_or runs k d).at + (get_or runs k d).len - 1) * block = le-mul_of_pos_right _ some in
     omega arith
 
+pub runs_filled : (spans : List Span) (size block : ℕ) (m : BlockMap) → HasRunsOf spans size block m → All (λ r. r.first ≤ r.last) m.ranges
+runs_filled spans size block m h k d below =
+    let is : get_or (runs_of m) k (run_of d) ≡ run_of (get_or m.ranges k d) = get_or-map run_of m.ranges k d (run_of d) below in
+    let some : 0 < (run_of (get_or m.ranges k d)).len = subst (λ (s : Span). 0 < s.len) is (h.runs.maximal.filled k (run_of d) (omega (arith, length-map m.ranges run_of))) in
+    omega arith
+
 -- the map of a cover is a map
 pub is_map : (spans : List Span) (size block : ℕ) (m : BlockMap) → HasRunsOf spans size block m → size ≤ 2 ^ 43 → IsPowerBetween 512 65536 block → length m.ranges ≤ 262144 → IsMap m
 is_map spans size block m h small power few = record {
   size = omega (arith, h.same_size);
   block = subst (λ (b : ℕ). IsPowerBetween 512 65536 b) (sym h.same_block) power;
   few = few;
-  filled = h.filled;
+  filled = runs_filled spans size block m h;
   ascend = λ i j d before below.
       let gap : (get_or (runs_of m) i (run_of d)).at + (get_or (runs_of m) i (run_of d)).len < (get_or (runs_of m) j (run_of d)).at = h.runs.maximal.apart i j (run_of d) before (omega (arith, length-map m.ranges run_of)) in
       let first : get_or (runs_of m) i (run_of d) ≡ run_of (get_or m.ranges i d) = get_or-map run_of m.ranges i d (run_of d) (omega arith) in
@@ -47,7 +53,7 @@ is_map spans size block m h small power few = record {
       let is : get_or (runs_of m) k (run_of d) ≡ run_of r = get_or-map run_of m.ranges k d (run_of d) below in
       let low : ((run_of r).at + (run_of r).len - 1) * block < size =
       subst (λ (s : Span). (s.at + s.len - 1) * block < size) is (run_below spans (runs_of m) size block k (run_of d) h.runs (omega (arith, length-map m.ranges run_of))) in
-      let order : r.first ≤ r.last = h.filled k d below in
+      let order : r.first ≤ r.last = runs_filled spans size block m h k d below in
       let last : (run_of r).at + (run_of r).len - 1 ≡ r.last = omega arith in
       let low' : r.last * block < size = subst (λ (n : ℕ). n * block < size) last low in
       rw (h.same_size, h.same_block) low';

@@ -1,13 +1,13 @@
 -- The laws of block maps and of units.
-use Rattle.std.specs.Prelude.{◌≡◌, ℕ, ◌+◌, ◌*◌, ◌<◌, ◌≤◌, ◌↔◌, List, length, slice_index_or, All, AllPairs}
+use Rattle.std.specs.Prelude.{◌≡◌, ℕ, ◌+◌, ◌*◌, ◌<◌, ◌≤◌, ◌↔◌, Bool, List, [], length, slice_index_or, All, AllPairs}
 use Rattle.std.specs.Int.{div_ceil}
 use Rattle.sha2.specs.Sha256.{sha256}
 use Rattle.base_fields.specs.declared.spans.Span.{Span}
-use Rattle.span_cover.specs.Cover.{covers}
+use Rattle.span_cover.specs.Cover.{covers, has}
 use Rattle.block_map.specs.declared.maps.BlockMap.{BlockMap}
 use Rattle.block_map.specs.declared.maps.Range.{Range}
 use Rattle.block_map.specs.Maps.{HasDigestSet, IsBareMapOf, IsMap, IsMapOf, IsMapTo, is_mapped, part_of, range_span}
-use Rattle.block_map.specs.Units.{units_of}
+use Rattle.block_map.specs.Units.{units_by_range, units_of}
 
 -- a map's last blocks begin below the size exactly where their numbers are below the block count, the size in blocks
 -- rounded up
@@ -28,13 +28,17 @@ DigestsEnd = (spans : List Span) (bytes : List ℕ) (block : ℕ) (m : BlockMap)
 abbrev pub OneMap : Type 0
 OneMap = (spans : List Span) (bytes : List ℕ) (block : ℕ) (m n : BlockMap) → IsMapOf spans bytes block m → IsMapOf spans bytes block n → m ≡ n
 
--- spans are the units of a map: none is empty or larger than a unit, they ascend and don't meet, and together they
--- are the mapped bytes
-pub record AreUnitsOf (m : BlockMap) (unit : ℕ) (units : List Span) : Type 0 where
-  pub filled : All (λ u. 0 < u.len) units
-  pub most : All (λ u. u.len ≤ unit) units
-  pub ascend : AllPairs (λ u later. u.at + u.len ≤ later.at) units
-  pub exact : (o : ℕ) → covers units o ≡ is_mapped m o
+-- offsets cut into spans: none is empty or larger than a unit, they ascend and don't meet, and together they are the
+-- offsets
+pub record AreCutFrom (unit : ℕ) (inside : ℕ → Bool) (cut : List Span) : Type 0 where
+  pub filled : All (λ s. 0 < s.len) cut
+  pub most : All (λ s. s.len ≤ unit) cut
+  pub ascend : AllPairs (λ s later. s.at + s.len ≤ later.at) cut
+  pub exact : (o : ℕ) → covers cut o ≡ inside o
 
+-- the units of a map are its mapped bytes, and those of a range are the range's
 abbrev pub UnitsAreMapped : Type 0
-UnitsAreMapped = (m : BlockMap) (unit : ℕ) → IsMap m → 0 < unit → AreUnitsOf m unit (units_of m unit)
+UnitsAreMapped = (m : BlockMap) (unit : ℕ) → IsMap m → 0 < unit → AreCutFrom unit (is_mapped m) (units_of m unit)
+
+abbrev pub RangesAreCut : Type 0
+RangesAreCut = (m : BlockMap) (unit r : ℕ) (d : Range) → 0 < unit → r < length m.ranges → AreCutFrom unit (has (range_span m (slice_index_or m.ranges r d))) (slice_index_or (units_by_range m unit) r [])

@@ -44,7 +44,6 @@ pub record HasRunsOf (spans : List Span) (size block : ℕ) (m : BlockMap) : Typ
   pub same_size : m.size ≡ size
   pub same_block : m.block ≡ block
   pub runs : AreTouchedRuns spans size block (runs_of m)
-  pub filled : All (λ r. r.first ≤ r.last) m.ranges
 
 -- that map with no digest
 pub record IsBareMapOf (spans : List Span) (size block : ℕ) (m : BlockMap) : Type 0 where

@@ -1,4 +1,4 @@
-ghost use Rattle.block_map.specs.Laws.{BelowTheCount, DigestsBegin, DigestsEnd, DigestsGoOn, OneMap, UnitsAreMapped};
+ghost use Rattle.block_map.specs.Laws.{BelowTheCount, DigestsBegin, DigestsEnd, DigestsGoOn, OneMap, RangesAreCut, UnitsAreMapped};
 
 /// Nothing is done: the contract is the law of where a map's ranges end.
 ///
@@ -25,7 +25,8 @@ pub fn images_have_one_map()
 /// Nothing is done: the contract is the law that a map's units are its mapped bytes.
 ///
 /// None is empty or larger than a unit, they ascend and don't meet, and an offset is in one of them exactly where
-/// it is below the image's size and its block is in a range.
+/// it is below the image's size and its block is in a range. So are those of one range its bytes.
 pub fn units_are_the_mapped_bytes()
-    ensures { UnitsAreMapped }
+    ensures all { UnitsAreMapped }
+    ensures range { RangesAreCut }
 {}

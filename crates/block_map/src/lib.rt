@@ -11,3 +11,6 @@ pub use laws::{
 };
 pub use maps::{BlockMap, Range};
 pub use units::{UnitFault, Units};
+
+#[cfg(test)]
+mod tests;

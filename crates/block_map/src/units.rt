@@ -1,4 +1,4 @@
-ghost use Rattle.std.specs.Prelude.{◌≡◌, ◌+◌, ◌*◌, ◌^◌, ◌<◌, ◌≤◌, IfOk, IfErr, OnOk, Some, length, slice_get, slice_index_or, []};
+ghost use Rattle.std.specs.Prelude.{◌≡◌, ℕ, ◌+◌, ◌*◌, ◌^◌, ◌<◌, ◌≤◌, IfOk, IfErr, OnOk, Some, length, slice_get, slice_index_or, []};
 ghost use Rattle.block_map.specs.Maps.{IsMap, IsPowerBetween, range_span};
 ghost use Rattle.block_map.specs.Pieces.{piece, pieces};
 ghost use Rattle.block_map.specs.Index.{IsIndex, rows_of};
@@ -171,7 +171,8 @@ impl Units {
     /// The number of the range that has unit `k`.
     pub fn range_of(&self, k: u64) -> u64
         requires { k < length (joined self.now) }
-        ensures { IsRangeOf self.now k result }
+        ensures found { IsRangeOf self.now k result }
+        ensures only { (r : ℕ) → IsRangeOf self.now k r → r ≡ result }
     {
         let behind = self.parts.partition_point(|part| part.first <= k);
         behind as u64 - 1
@@ -188,7 +189,8 @@ impl Units {
     /// How many units range `r` has.
     pub fn count_of(&self, r: u64) -> u64
         requires { r < length self.now }
-        ensures { result ≡ length (slice_index_or self.now r []) }
+        ensures exact { result ≡ length (slice_index_or self.now r []) }
+        ensures next { first_of self.now (r + 1) ≡ first_of self.now r + result }
     {
         pieces_in(self.parts[r as usize].span, self.unit)
     }

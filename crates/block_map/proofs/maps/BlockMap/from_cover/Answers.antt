@@ -22,6 +22,5 @@ returns-clause-map c =
       same_size = refl;
       same_block = refl;
       runs = subst (λ (runs : List Span). AreTouchedRuns c.args.cover.now c.args.size c.args.block runs) (sym same) c.in_ok-runs.ensures.touched;
-      filled = c.in_ok-ranges.ensures.filled;
     })
     c.requires.size c.requires.block (omega (arith, c.in_ok-runs.ensures.few, c.requires.few))

@@ -4,7 +4,7 @@ use Rattle.std.specs.List.Sorted.{IsNonDecreasingBy, IsPartitionPoint}
 use Rattle.std.specs.Prelude.{◌≤◌}
 use Rattle.block_map.specs.declared.units.Part.{Part}
 use Rattle.block_map.specs.Units.{IsRangeOf}
-use Rattle.block_map.proofs.Index.{first_point, firsts_rise, range_seen}
+use Rattle.block_map.proofs.Index.{first_point, firsts_rise, one_range, range_seen}
 use Rattle.block_map.proofs.units.Units.range_of.Goals as goal
 
 found : (c : goal.After-partition_point-behind) → (0 < c.partition_point-behind.result) × IsRangeOf c.args.self.now c.args.k (c.partition_point-behind.result - 1)
@@ -24,5 +24,8 @@ found c =
 pub overflow_sub-result : goal.overflow_sub-result
 overflow_sub-result c = (found c).0
 
-pub returns : goal.returns
-returns c = (found c).1
+pub returns-clause-found : goal.returns-clause-found
+returns-clause-found c = (found c).1
+
+pub returns-clause-only : goal.returns-clause-only
+returns-clause-only c r is = one_range c.args.self.now c.args.k r _ is (found c).1
