@@ -3,7 +3,7 @@ use Rattle.std.proofs.Common.{◌≡◌, ℕ, ◌+◌, ◌-◌, ◌*◌, ◌<◌
 use Rattle.std.proofs.lemmas.Bool.{cases_lt}
 use Rattle.std.proofs.lemmas.List.{get_or-set_other, get_or-set_same, get_or-take, length-take, take_all}
 use Rattle.std.proofs.lemmas.List.Elements.{All-head, All-tail}
-use Rattle.std.specs.Prelude.{All, Bool}
+use Rattle.std.specs.Prelude.{All}
 use Rattle.sha2.specs.Sha256.{sha256}
 use Rattle.base_fields.specs.declared.spans.Span.{Span}
 use Rattle.span_cover.specs.Cover.{AreTouchedRuns, covers}
@@ -11,7 +11,7 @@ use Rattle.span_cover.proofs.Spans.{same_bool}
 use Rattle.span_cover.proofs.Unique.{one_list}
 use Rattle.block_map.specs.declared.maps.BlockMap.{BlockMap}
 use Rattle.block_map.specs.declared.maps.Range.{Range}
-use Rattle.block_map.specs.Maps.{HasDigest, HasDigestSet, HasRunsOf, IsMapOf, IsMapTo, part_of, range_span, run_of, runs_of}
+use Rattle.block_map.specs.Maps.{HasDigest, HasDigestSet, IsMapOf, IsMapTo, part_of, range_span, run_of, runs_of}
 use Rattle.block_map.proofs.Runs.{runs_filled, runs_kept}
 
 -- a span of a range, by a map's size and block

@@ -1,6 +1,5 @@
 -- The bytes of a map's ranges.
-use Rattle.std.proofs.Common.{◌≡◌, ℕ, suc, ◌+◌, ◌-◌, ◌*◌, ◌/◌, ◌%◌, ◌<◌, ◌≤◌, min, List, [], ◌∷◌, length, get_or, map, Bool, true, false, ◌||◌, ◌&&◌, inl, inr, refl, sym, subst, ap, ◌∙◌, arith, mul-le-mul_right}
-use Rattle.std.proofs.lemmas.Bool.{cases_lt}
+use Rattle.std.proofs.Common.{◌≡◌, ℕ, ◌+◌, ◌-◌, ◌*◌, ◌/◌, ◌%◌, ◌<◌, ◌≤◌, List, [], ◌∷◌, length, get_or, map, Bool, true, false, ◌||◌, ◌&&◌, refl, sym, subst, ap, ◌∙◌, arith, mul-le-mul_right}
 use Rattle.std.proofs.lemmas.Bool.Decides.{nat_tests}
 use Rattle.std.proofs.lemmas.Nat.{div-add-mod', div_below, le-div, mod_below, row_fits}
 use Rattle.std.proofs.lemmas.List.{get_or-map}
@@ -11,7 +10,7 @@ use Rattle.span_cover.specs.Cover.{covers, has}
 use Rattle.span_cover.proofs.Spans.{has_in, in_has, same_bool}
 use Rattle.block_map.specs.declared.maps.BlockMap.{BlockMap}
 use Rattle.block_map.specs.declared.maps.Range.{Range}
-use Rattle.block_map.specs.Maps.{IsMap, is_mapped, range_span, run_of, runs_of}
+use Rattle.block_map.specs.Maps.{IsMap, is_mapped, range_span, run_of}
 use Rattle.block_map.specs.Laws.{AreCutFrom}
 use Rattle.block_map.specs.Pieces.{pieces}
 use Rattle.block_map.specs.Units.{units_by_range, units_of}

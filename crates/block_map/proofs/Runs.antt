@@ -1,11 +1,11 @@
 -- A map's ranges as runs of blocks: from a cover, and as their digests change.
-use Rattle.std.proofs.Common.{◌≡◌, ℕ, zero, suc, ◌+◌, ◌-◌, ◌*◌, ◌/◌, ◌%◌, ◌^◌, ◌<◌, ◌≤◌, List, [], ◌∷◌, length, get_or, set, map, Some, refl, sym, ap, subst, ◌∙◌, arith, mul-le-mul_right}
+use Rattle.std.proofs.Common.{◌≡◌, ℕ, zero, suc, ◌+◌, ◌-◌, ◌*◌, ◌/◌, ◌^◌, ◌<◌, ◌≤◌, List, [], ◌∷◌, length, get_or, set, map, Some, refl, sym, ap, subst, ◌∙◌, arith}
 use Rattle.std.proofs.Math.Nat.{div-mul-le_self, le-mul_of_pos_right}
 use Rattle.std.proofs.lemmas.List.{get_or-map, length-map, length-set}
 use Rattle.std.proofs.lemmas.List.Elements.{All-set}
-use Rattle.std.specs.Prelude.{All, AllPairs}
+use Rattle.std.specs.Prelude.{All}
 use Rattle.base_fields.specs.declared.spans.Span.{Span}
-use Rattle.span_cover.specs.Cover.{AreTouchedRuns, IsTouched, covers}
+use Rattle.span_cover.specs.Cover.{AreTouchedRuns, IsTouched}
 use Rattle.span_cover.proofs.Spans.{covers_at}
 use Rattle.block_map.specs.declared.maps.BlockMap.{BlockMap}
 use Rattle.block_map.specs.declared.maps.Range.{Range}

@@ -9,6 +9,7 @@ use std::process::Abort;
 use std::test::Fail;
 
 // An image in which two spans are covered.
+#[derive(Clone, Copy)]
 struct Image {
     spans: [Span; 2],
     size: u64,
@@ -108,7 +109,7 @@ fn map_with_a_gap(rt: HostRuntime) -> Result<(), Fail> {
 fn units_of_maps(rt: HostRuntime) -> Result<(), Fail> {
     // the image and the size of a unit; how many units there are; one of them with its place, length and range
     let rows = [
-        (THREE_BYTES, 65_536, 1, (0, 0, 3, 0)),
+        (THREE_BYTES, 65_536_u32, 1, (0, 0, 3, 0)),
         (GAP, 65_536, 2, (0, 0, 4_096, 0)),
         (GAP, 65_536, 2, (1, 8_192, 1_808, 1)),
         (WHOLE, 65_536, 3, (2, 131_072, 65_536, 0)),
@@ -143,7 +144,9 @@ fn too_many_units(rt: HostRuntime) -> Result<(), Fail> {
         count: 8_388_608,
         limit: 4_194_304,
     };
-    match map.units(rt.alloc(), 1_048_576) {
+    let unit = 1_048_576_u32;
+    assert!(rt; unit.is_power_of_two());
+    match map.units(rt.alloc(), unit) {
         Ok(_) => assert!(rt; false),
         Err(fault) => assert_eq!(rt; fault, refusal),
     }

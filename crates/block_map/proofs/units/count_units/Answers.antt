@@ -1,6 +1,5 @@
-use Rattle.std.proofs.Common.{◌≡◌, ◌+◌, ℕ, ◌≤◌, ◌^◌, length, map, List, ap, sym, ◌∙◌, arith, take}
+use Rattle.std.proofs.Common.{◌≡◌, ◌+◌, ℕ, length, map, List, ap, sym, ◌∙◌, arith, take}
 use Rattle.std.proofs.lemmas.List.{take_all}
-use Rattle.std.proofs.lemmas.Grind.{common_steps}
 use Rattle.base_fields.specs.declared.spans.Span.{Span}
 use Rattle.block_map.specs.declared.maps.Range.{Range}
 use Rattle.block_map.specs.Maps.{range_span}

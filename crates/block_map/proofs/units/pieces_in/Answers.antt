@@ -1,5 +1,4 @@
 use Rattle.std.proofs.Common.{sym, ◌∙◌}
-use Rattle.block_map.proofs.Index.{pieces_few}
 use Rattle.block_map.proofs.Pieces.{pieces_length}
 use Rattle.block_map.proofs.units.pieces_in.Goals as goal
 
