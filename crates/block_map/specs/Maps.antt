@@ -54,9 +54,13 @@ pub record IsBareMapOf (spans : List Span) (size block : ℕ) (m : BlockMap) : T
 abbrev pub part_of : Span → List ℕ → List ℕ
 part_of span bytes = take span.len (drop span.at bytes)
 
--- a range has the digest of its bytes
+-- the digest of a range's bytes, in an image of these bytes
+abbrev pub digest_in : BlockMap → List ℕ → Range → List ℕ
+digest_in m bytes r = sha256 (part_of (range_span m r) bytes)
+
+-- a range has that digest
 abbrev pub HasDigest : BlockMap → List ℕ → Range → Type 0
-HasDigest m bytes r = r.digest ≡ Some (sha256 (part_of (range_span m r) bytes))
+HasDigest m bytes r = r.digest ≡ Some (digest_in m bytes r)
 
 -- the map of an image in which these spans are covered: its runs, each range with the digest of its bytes
 pub record IsMapOf (spans : List Span) (bytes : List ℕ) (block : ℕ) (m : BlockMap) : Type 0 where
@@ -72,4 +76,5 @@ pub record IsMapTo (spans : List Span) (bytes : List ℕ) (block : ℕ) (k : ℕ
 pub record HasDigestSet (old : BlockMap) (k : ℕ) (digest : List ℕ) (new : BlockMap) : Type 0 where
   pub size : new.size ≡ old.size
   pub block : new.block ≡ old.block
-  pub ranges : (d : Range) → new.ranges ≡ slice_set old.ranges k (record (slice_index_or old.ranges k d) { digest = Some digest })
+  pub ranges : (d : Range) →
+      new.ranges ≡ slice_set old.ranges k (record (slice_index_or old.ranges k d) { digest = Some digest })

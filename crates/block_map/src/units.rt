@@ -16,7 +16,7 @@ const MAX_UNITS: u64 = 4_194_304;
 
 /// The units of a map: each of its ranges, as bytes, cut from its first byte into pieces of one size, of which the
 /// last is shorter where the range's bytes ask for it. They are numbered from 0 in the order of their bytes.
-/// Contracts see the spans of each range's units.
+/// No call on them takes memory. Contracts see the spans of each range's units.
 #[derive(Debug, Drop)]
 pub struct Units {
     unit: u64,
@@ -150,7 +150,6 @@ fn piece_in(span: Span, unit: u64, j: u64) -> Span
     }
 }
 
-// None of these calls takes memory.
 impl Units {
     /// How many units there are.
     pub fn count(&self) -> u64
