@@ -3,6 +3,6 @@ mod Editing
 mod Replacing
 mod Searching
 mod Slow
-mod Spans
+pub mod Spans
 mod Touching
-mod Unique
+pub mod Unique
