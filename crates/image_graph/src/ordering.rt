@@ -28,8 +28,12 @@ fn go_on(
     visit: Visit,
     order: &mut List<u32>,
 ) -> Result<(), NoMemory>
-    ensures walked { OnOk result (walked families.now (length families.now - 1) path.new.items order.new ≡ walked families.now (length families.now - 1) (path.old.items ++ visit ∷ []) order.old) }
-    ensures left { OnOk result (left families.now (length families.now - 1) path.new.items < left families.now (length families.now - 1) (path.old.items ++ visit ∷ [])) }
+    ensures walked { let most = length families.now - 1 in
+        let before = path.old.items ++ visit ∷ [] in
+        OnOk result (walked families.now most path.new.items order.new ≡ walked families.now most before order.old) }
+    ensures left { let most = length families.now - 1 in
+        let before = path.old.items ++ visit ∷ [] in
+        OnOk result (left families.now most path.new.items < left families.now most before) }
 {
     let Some(&child) = children(families, visit.image).get(visit.next) else {
         order.push(visit.image)?;
