@@ -31,7 +31,6 @@ pub fn digest_of<F: Files>(
     pool: &mut Pool,
 ) -> Result<[u8; 32], DigestFault>
     requires free { 0 < free_of pool.old }
-    requires room { 0 < pool.old.size }
     requires reads { span.at + span.len < 2 ^ 64 }
     ensures none_fell { NoneFell (F.counts files.old) (F.counts files.new) }
     ensures failed { IsErrOf result DigestFault.FileFault → Rose (F.counts files.old).faults (F.counts files.new).faults }
@@ -39,6 +38,7 @@ pub fn digest_of<F: Files>(
     ensures ended { (at : ℕ) → IsErrOf result (DigestFault.SourceShort at) → Rose (F.counts files.old).ends (F.counts files.new).ends }
     ensures needed { (at : ℕ) → IsErrOf result (DigestFault.SourceShort at) → at < span.at + span.len }
     ensures same_files { F.file files.new ≡ F.file files.old }
+    ensures unasked { span.len ≡ 0 → files.new ≡ files.old }
     ensures exact { F.told → Digests (span_of (F.file files.old name.now) span.at span.len) result }
     ensures given_back { IsGivenBack pool.old pool.new }
 {
@@ -65,6 +65,7 @@ fn digest_through<F: Files>(
     ensures ended { (at : ℕ) → IsErrOf result (DigestFault.SourceShort at) → Rose (F.counts files.old).ends (F.counts files.new).ends }
     ensures needed { (at : ℕ) → IsErrOf result (DigestFault.SourceShort at) → at < span.at + span.len }
     ensures same_files { F.file files.new ≡ F.file files.old }
+    ensures unasked { span.len ≡ 0 → files.new ≡ files.old }
     ensures exact { F.told → Digests (span_of (F.file files.old name.now) span.at span.len) result }
 {
     let room = buf.len() as u64;

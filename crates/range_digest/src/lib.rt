@@ -5,3 +5,5 @@ mod digests;
 
 pub use digests::{DigestFault, digest_of};
 
+#[cfg(test)]
+mod tests;

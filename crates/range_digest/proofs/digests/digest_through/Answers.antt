@@ -13,5 +13,6 @@ loop-done-preserved g c =
       room = search rules;
       none_fell = search rules;
       same_files = search rules;
+      unasked = search rules;
       hashed = λ told. hashed_more (file c.args.files.now c.args.name.now) c.args.span.at c.loop-done.done c.min-piece.result c.loop-done.hasher c.add_piece.new.hasher (c.loop-done.invariant.hashed told) (rw (← same, ← long) (c.in_ok-add_piece.ensures.added told));
     }

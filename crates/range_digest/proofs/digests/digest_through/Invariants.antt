@@ -13,6 +13,7 @@ invariant-loop-done g l =
       room : l.room ≡ length l.buf;
       none_fell : NoneFell (files.counts l.fn.files) (files.counts l.files);
       same_files : files.file l.files ≡ files.file l.fn.files;
+      unasked : l.done ≡ 0 → l.files ≡ l.fn.files;
       hashed : files.told → IsOkAnd (span_of (files.file l.fn.files l.name) l.span.at l.done) (Holds256 l.hasher);
     }
 
