@@ -3,3 +3,4 @@ pub mod Pieces
 pub mod Rows
 pub mod Sharing
 pub mod Slots
+pub mod Uses

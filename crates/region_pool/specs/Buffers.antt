@@ -1,5 +1,5 @@
 -- What a clause sees of a pool of equal buffers and of a lease of one, and what each call makes of the pool.
-use Rattle.std.specs.Prelude.{◌≡◌, ◌<◌, ℕ, Bool, true, false, not, List, [], length, get_or, slice_set, replicate, count_by}
+use Rattle.std.specs.Prelude.{◌≡◌, ◌<◌, ◌≤◌, ℕ, Bool, true, false, not, List, [], length, get_or, slice_set, replicate, count_by}
 use Rattle.std.specs.List.{refill}
 
 -- a pool: its tag, the bytes of one buffer, what each slot's buffer holds, and which slots are out
@@ -8,6 +8,10 @@ pub record Buffers : Type 0 where
   pub size : ℕ
   pub slots : List (List ℕ)
   pub out : List Bool
+
+-- how many bytes a buffer may have
+abbrev pub IsSize : ℕ → Type 0
+IsSize bytes = (16384 ≤ bytes) × (bytes ≤ 4194304)
 
 -- a lease: the tag of its pool, and its slot
 pub record Held : Type 0 where

@@ -5,4 +5,5 @@ pub mod Loans
 pub mod Ownership
 pub mod Parts
 pub mod Runs
+pub mod Uses
 pub mod Whole

@@ -1,6 +1,6 @@
 ghost use Rattle.std.specs.Prelude.{◌≡◌, ℕ, ◌+◌, ◌*◌, ◌^◌, ◌<◌, ◌≤◌, ◌↔◌, length, IfOk, IfSome, IfNone, IsNone, slice_set, position, not, false, map, replicate};
 ghost use Rattle.std.specs.Borrow.{sem};
-ghost use Rattle.region_pool.specs.Buffers.{bytes_at, IsFree, free_of, IsLeaseOf, new_pool, taken, given};
+ghost use Rattle.region_pool.specs.Buffers.{IsSize, bytes_at, IsFree, free_of, IsLeaseOf, new_pool, taken, given};
 
 use crate::block::Block;
 use base_fields::NoMemory;
@@ -38,13 +38,13 @@ pub struct Pool {
 impl Model for Pool {
     ghost use Rattle.std.specs.Prelude.{◌≡◌, ◌≤◌, ◌*◌, length, take};
     ghost use Rattle.region_pool.specs.Blocks.{pieces};
-    ghost use Rattle.region_pool.specs.Buffers.{Buffers};
+    ghost use Rattle.region_pool.specs.Buffers.{Buffers, IsSize};
 
     ghost Value = { Buffers };
 
     ghost view = { λ p. record { tag = p.tag; size = p.size; slots = pieces p.size p.count p.block; out = take p.count p.out } };
 
-    ghost invariant = { λ p. (p.count ≤ 64) × (length p.block ≡ p.count * p.size) };
+    ghost invariant = { λ p. ((p.count ≤ 64) × IsSize p.size) × (length p.block ≡ p.count * p.size) };
 }
 
 impl Pool {
@@ -53,7 +53,7 @@ impl Pool {
     /// A pool of `count` buffers of `bytes` bytes each. Every byte is 0, and no buffer is out.
     pub fn new(alloc: Global, tag: u32, count: u32, bytes: u32) -> Result<Pool, NoMemory>
         requires buffers { (1 ≤ count) × (count ≤ 64) }
-        requires room { (16384 ≤ bytes) × (bytes ≤ 4194304) }
+        requires room { IsSize bytes }
         ensures ok { IfOk result (λ p. p ≡ new_pool tag count bytes) }
     {
         let block = Block::zeroed(alloc, block_len(count, bytes))?;
@@ -68,6 +68,7 @@ impl Pool {
 
     /// Takes a buffer out of the pool, with the bytes that it was given back with.
     pub fn lease(&mut self) -> Option<Lease>
+        ensures sized { IsSize self.old.size }
         ensures none { IsNone result ↔ (free_of self.old ≡ 0) }
         ensures unchanged { IfNone result (self.new ≡ self.old) }
         ensures was_free { IfSome result (λ l. IsFree self.old l.slot) }
@@ -127,7 +128,8 @@ impl Pool {
 
     /// The bytes of one buffer.
     pub fn size(&self) -> u32
-        ensures { result ≡ self.now.size }
+        ensures value { result ≡ self.now.size }
+        ensures sized { IsSize result }
     {
         self.size
     }

@@ -22,7 +22,6 @@ fn fill_front(buf: &mut [u8], n: usize, v: u8)
 
 fn use_once(pool: &mut Pool, v: u8) -> u8
     requires free { 0 < free_of pool.old }
-    requires room { 0 < pool.old.size }
     ensures value { result ≡ v }
     ensures free { free_of pool.new ≡ free_of pool.old }
     ensures same { pool.new.out ≡ pool.old.out }
