@@ -1,10 +1,10 @@
 -- What an answer says of a file's bytes, and of the counts of the files.
-use Rattle.std.specs.Prelude.{◌≡◌, ◌≢◌, ℕ, ◌+◌, ◌-◌, ◌*◌, ◌^◌, ◌<◌, ◌⊎◌, IsTrue, List, [], ◌∷◌, Contains, length, Option, None, Some, Result, Ok, Err}
+use Rattle.std.specs.Prelude.{◌≡◌, ◌≢◌, ℕ, ◌+◌, ◌-◌, ◌*◌, ◌^◌, ◌<◌, ◌⊎◌, IsTrue, List, length, Option, None, Some, Result, Ok, Err}
 use Rattle.outside.specs.Counts.{Counts, Rose}
 use Rattle.outside.specs.Files.{Tree, IsThere, bytes_of}
 use Rattle.sparse_reader.specs.Bind.{or_else}
 use Rattle.sparse_reader.specs.Chunks.{behind}
-use Rattle.sparse_reader.specs.Header.{is_block}
+use Rattle.sparse_reader.specs.Header.{IsField, is_block}
 use Rattle.sparse_reader.specs.declared.chunk.Chunk.{Chunk}
 use Rattle.sparse_reader.specs.declared.chunk.ChunkKind.{ChunkKind}
 use Rattle.sparse_reader.specs.declared.chunk.ChunkKind.TheVariants.{Raw, Fill, Skip, Crc}
@@ -42,9 +42,14 @@ abbrev pub HasCause : Counts → Counts → SparseFault → Type 0
 HasCause before now fault.FileFault = Rose before.faults now.faults
 HasCause before now fault.Missing = Rose before.absences now.absences
 HasCause before now (fault.Short at) = Rose before.ends now.ends ⊎ (at < most_bytes)
-HasCause before now (fault.BadMagic at) = Contains (0 ∷ 4 ∷ 6 ∷ 8 ∷ 10 ∷ 12 ∷ []) at
+HasCause before now (fault.BadMagic at) = IsField at
 HasCause before now (fault.BadChunk k) = k < 2 ^ 32 - 1
 HasCause before now (fault.Counts want got) = want ≢ got
+
+-- the one refusal of a whole header
+abbrev pub IsBadMagic : SparseFault → Type 0
+IsBadMagic (fault.BadMagic at) = IsField at
+IsBadMagic refusal = ⊥
 
 -- the one refusal behind the last chunk: two counts that differ
 abbrev pub IsCounts : SparseFault → Type 0

@@ -1,5 +1,5 @@
 -- The header of a sparse file: 28 bytes, the numbers in them with the lowest byte first.
-use Rattle.std.specs.Prelude.{ℕ, ◌+◌, ◌%◌, ◌==◌, nat_le, nat_lt, Bool, ◌&&◌, List, [], ◌∷◌, length, take, drop, Option, None, Some, Result, Ok, Err, if◌then◌else◌}
+use Rattle.std.specs.Prelude.{ℕ, ◌+◌, ◌%◌, ◌==◌, nat_le, nat_lt, Bool, ◌&&◌, List, [], ◌∷◌, length, take, drop, Contains, Option, None, Some, Result, Ok, Err, if◌then◌else◌}
 use Rattle.byteorder.specs.Endian.{little_number}
 use Rattle.sparse_reader.specs.Bind.{◌>>=◌}
 use Rattle.sparse_reader.specs.declared.fault.SparseFault.{SparseFault}
@@ -35,6 +35,10 @@ is_block n = nat_lt 0 n && (n % 4 == 0)
 abbrev pub first_bad : List FixedField → List ℕ → Option ℕ
 first_bad [] head = if is_block (number_in head 12 4) then None else Some 12
 first_bad (f ∷ fs) head = if number_in head f.at f.width == f.value then first_bad fs head else Some f.at
+
+-- the offset of a field that can be bad
+abbrev pub IsField : ℕ → Type 0
+IsField at = Contains (0 ∷ 4 ∷ 6 ∷ 8 ∷ 10 ∷ 12 ∷ []) at
 
 -- what the header's other fields say; the checksum at 24 isn't looked at
 abbrev pub said_by : List ℕ → Header

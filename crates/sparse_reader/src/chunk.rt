@@ -1,6 +1,6 @@
 //! A chunk of a sparse file: what its 12 bytes of header say, and where the next one stands.
-ghost use Rattle.std.specs.Prelude.{◌≡◌, ℕ, ◌+◌, ◌^◌, ◌<◌, IfSome, length};
-ghost use Rattle.sparse_reader.specs.Chunks.{IsCursor, behind, data_len, kind_of, start, tag_in};
+ghost use Rattle.std.specs.Prelude.{◌≡◌, ℕ, ◌+◌, ◌-◌, ◌*◌, ◌^◌, ◌<◌, ◌≤◌, true, IfSome, length};
+ghost use Rattle.sparse_reader.specs.Chunks.{IsCursor, behind, data_len, kind_of, may_have, start, tag_in};
 
 use base_fields::{get_u16, get_u32};
 
@@ -67,7 +67,11 @@ impl Cursor {
         ensures exact { result ≡ behind block self chunk.now }
         ensures bounded { IsCursor result }
     {
-        self
+        Cursor {
+            chunk: self.chunk + 1,
+            at: chunk.at + data_len(chunk.kind, block, chunk.count),
+            block: self.block + u64::from(chunk.count),
+        }
     }
 }
 
@@ -82,14 +86,35 @@ pub struct Tag {
 fn kind_of(number: u16) -> Option<ChunkKind>
     ensures { result ≡ kind_of number }
 {
-    None
+    match number {
+        0xCAC1 => Some(ChunkKind::Raw),
+        0xCAC2 => Some(ChunkKind::Fill),
+        0xCAC3 => Some(ChunkKind::Skip),
+        0xCAC4 => Some(ChunkKind::Crc),
+        _ => None,
+    }
+}
+
+/// Whether a chunk of that kind may have so many blocks.
+fn may_have(kind: ChunkKind, count: u32) -> bool
+    ensures { result ≡ may_have kind count }
+{
+    match kind {
+        ChunkKind::Crc => count == 0,
+        ChunkKind::Raw | ChunkKind::Fill | ChunkKind::Skip => true,
+    }
 }
 
 /// How many bytes of data a chunk has, in blocks of `block` bytes.
 pub fn data_len(kind: ChunkKind, block: u32, count: u32) -> u64
-    ensures { result ≡ data_len kind block count }
+    ensures exact { result ≡ data_len kind block count }
+    ensures bounded { result ≤ (2 ^ 32 - 1) * (2 ^ 32 - 1) }
 {
-    0
+    match kind {
+        ChunkKind::Raw => u64::from(count) * u64::from(block),
+        ChunkKind::Fill | ChunkKind::Crc => 4,
+        ChunkKind::Skip => 0,
+    }
 }
 
 /// The chunk that these 12 bytes say, in blocks of `block` bytes.
@@ -97,6 +122,14 @@ pub fn tag_in(head: &[u8], block: u32) -> Option<Tag>
     requires { length head.now ≡ 12 }
     ensures exact { result ≡ tag_in block head.now }
     ensures data { IfSome result (λ tag. 12 + data_len tag.kind block tag.count < 2 ^ 32) }
+    ensures blocks { IfSome result (λ tag. may_have tag.kind tag.count ≡ true) }
 {
-    None
+    let kind = kind_of(get_u16(head, 0))?;
+    let count = get_u32(head, 4);
+    let total = u64::from(get_u32(head, 8));
+    if may_have(kind, count) && total == TAG_LEN as u64 + data_len(kind, block, count) {
+        Some(Tag { kind, count })
+    } else {
+        None
+    }
 }

@@ -27,6 +27,12 @@ pub fn next_chunk<F: Files>(
     ensures moved_by { F.told → MovesBy (block_of (bytes_of (F.file files.old) from.now)) cursor.old result cursor.new }
     ensures answers { F.told → Answers (next_of (F.file files.old from.now) cursor.old) result }
 {
-    let _ = (files, from, cursor);
-    Err(SparseFault::FileFault)
+    let len = length_of(files, from)?;
+    let header = read_header(files, from, len)?;
+    if cursor.chunk >= header.chunks {
+        return Ok(None);
+    }
+    let chunk = read_chunk(files, from, len, header.block, *cursor)?;
+    *cursor = cursor.behind(header.block, &chunk);
+    Ok(Some(chunk))
 }

@@ -1,9 +1,9 @@
 //! Parts of a sparse file: its header, and one chunk.
-ghost use Rattle.std.specs.Prelude.{◌≡◌, ℕ, ◌+◌, ◌^◌, ◌<◌, ◌≤◌, IfErr, IfOk, IsTrue, length};
+ghost use Rattle.std.specs.Prelude.{◌≡◌, ℕ, ◌+◌, ◌^◌, ◌<◌, ◌≤◌, IfErr, IfOk, IsTrue, length, true};
 ghost use Rattle.outside.specs.Counts.{NoneFell};
 ghost use Rattle.outside.specs.Files.{IsThere, bytes_of};
 ghost use Rattle.sparse_reader.specs.Answers.{Answers, HasCause, HasForm, HasLength, IsStep, Reads, most_bytes};
-ghost use Rattle.sparse_reader.specs.Chunks.{IsCursor, behind, chunk_at, data_len, word_at, word_in};
+ghost use Rattle.sparse_reader.specs.Chunks.{IsCursor, behind, chunk_at, data_len, may_have, word_at};
 ghost use Rattle.sparse_reader.specs.Header.{header_of, is_block, part_of};
 
 use crate::chunk::{TAG_LEN, Tag, data_len, tag_in};
@@ -19,7 +19,11 @@ pub fn length_of<F: Files>(files: &mut F, from: &str) -> Result<u64, SparseFault
     ensures same_files { F.file files.new ≡ F.file files.old }
     ensures there { F.told → HasLength (F.file files.old) from.now result }
 {
-    Err(SparseFault::FileFault)
+    match files.length(from) {
+        Ok(len) => Ok(len),
+        Err(FileErr::Missing) => Err(SparseFault::Missing),
+        Err(FileErr::Failed) => Err(SparseFault::FileFault),
+    }
 }
 
 /// Fills the buffer with the bytes from `at` on of a file that has `len` bytes.
@@ -38,7 +42,15 @@ fn read_part<F: Files>(
     ensures same_files { F.file files.new ≡ F.file files.old }
     ensures there { F.told → Reads (part_of (bytes_of (F.file files.old) from.now) at (length buf.old)) buf.new result }
 {
-    Err(SparseFault::FileFault)
+    if at + buf.len() as u64 > len {
+        return Err(SparseFault::Short { at: len });
+    }
+    match fill(files, from, at, buf) {
+        Ok(()) => Ok(()),
+        Err(FillFault::Missing) => Err(SparseFault::Missing),
+        Err(FillFault::Short { .. }) => Err(SparseFault::Short { at: len }),
+        Err(FillFault::Failed) => Err(SparseFault::FileFault),
+    }
 }
 
 /// The header of a file that has `len` bytes.
@@ -50,7 +62,9 @@ pub fn read_header<F: Files>(files: &mut F, from: &str, len: u64) -> Result<Head
     ensures block { IfOk result (λ header. IsTrue (is_block header.block)) }
     ensures answers { F.told → Answers (header_of (bytes_of (F.file files.old) from.now)) result }
 {
-    Err(SparseFault::FileFault)
+    let mut head = [0; HEADER_LEN];
+    read_part(files, from, len, 0, &mut head)?;
+    header_in(&head)
 }
 
 /// The word of a chunk whose data stands at `at`, in blocks of `block` bytes. The data of another
@@ -64,6 +78,8 @@ fn read_word<F: Files>(
     tag: Tag,
 ) -> Result<u32, SparseFault>
     requires near { at + data_len tag.kind block tag.count ≤ most_bytes }
+    requires total { 12 + data_len tag.kind block tag.count < 2 ^ 32 }
+    requires blocks { may_have tag.kind tag.count ≡ true }
     requires there { F.told → IsThere (F.file files.old) from.now (len ≡ length (bytes_of (F.file files.old) from.now)) }
     ensures none_fell { NoneFell (F.counts files.old) (F.counts files.new) }
     ensures cause { IfErr result (HasCause (F.counts files.old) (F.counts files.new)) }
@@ -71,7 +87,15 @@ fn read_word<F: Files>(
     ensures form { IfOk result (HasForm block tag.kind tag.count) }
     ensures answers { F.told → Answers (word_at (bytes_of (F.file files.old) from.now) block at tag) result }
 {
-    Err(SparseFault::FileFault)
+    if tag.kind == ChunkKind::Fill {
+        let mut word = [0; 4];
+        read_part(files, from, len, at, &mut word)?;
+        return Ok(get_u32(&word, 0));
+    }
+    if at + data_len(tag.kind, block, tag.count) > len {
+        return Err(SparseFault::Short { at: len });
+    }
+    Ok(0)
 }
 
 /// The chunk at a cursor, in blocks of `block` bytes, of a file that has `len` bytes. No other chunk
@@ -94,5 +118,18 @@ pub fn read_chunk<F: Files>(
     ensures step { IfOk result (λ chunk. IsStep block cursor chunk (behind block cursor chunk)) }
     ensures answers { F.told → Answers (chunk_at (bytes_of (F.file files.old) from.now) block cursor) result }
 {
-    Err(SparseFault::FileFault)
+    let mut head = [0; TAG_LEN];
+    read_part(files, from, len, cursor.at, &mut head)?;
+    let Some(tag) = tag_in(&head, block) else {
+        return Err(SparseFault::BadChunk { k: cursor.chunk });
+    };
+    let at = cursor.at + TAG_LEN as u64;
+    let word = read_word(files, from, len, block, at, tag)?;
+    Ok(Chunk {
+        kind: tag.kind,
+        first: cursor.block,
+        count: tag.count,
+        at,
+        word,
+    })
 }

@@ -44,7 +44,29 @@ impl Tally {
         ensures exact { result ≡ with_chunk self chunk.now }
         ensures kinds { IsTally (self.raw + self.fill + self.skip + self.crc + 1) result }
     {
-        self
+        let blocks = self.blocks + u64::from(chunk.count);
+        match chunk.kind {
+            ChunkKind::Raw => Tally {
+                raw: self.raw + 1,
+                blocks,
+                ..self
+            },
+            ChunkKind::Fill => Tally {
+                fill: self.fill + 1,
+                blocks,
+                ..self
+            },
+            ChunkKind::Skip => Tally {
+                skip: self.skip + 1,
+                blocks,
+                ..self
+            },
+            ChunkKind::Crc => Tally {
+                crc: self.crc + 1,
+                blocks,
+                ..self
+            },
+        }
     }
 }
 
@@ -63,5 +85,12 @@ pub fn read_tally<F: Files>(
     ensures kinds { IfOk result (IsTally header.chunks) }
     ensures answers { F.told → Answers (tally_in (bytes_of (F.file files.old) from.now) header) result }
 {
-    Err(SparseFault::FileFault)
+    let mut cursor = Cursor::new();
+    let mut tally = Tally::new();
+    while cursor.chunk < header.chunks {
+        let chunk = read_chunk(files, from, len, header.block, cursor)?;
+        tally = tally.with(&chunk);
+        cursor = cursor.behind(header.block, &chunk);
+    }
+    Ok(tally)
 }

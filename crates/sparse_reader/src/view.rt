@@ -33,7 +33,21 @@ fn close(header: Header, tally: Tally) -> Result<SparseView, SparseFault>
     ensures exact { result ≡ closed header tally }
     ensures fault { IfErr result IsCounts }
 {
-    Err(SparseFault::FileFault)
+    if tally.blocks != u64::from(header.blocks) {
+        return Err(SparseFault::Counts {
+            want: u64::from(header.blocks),
+            got: tally.blocks,
+        });
+    }
+    Ok(SparseView {
+        block: header.block,
+        blocks: header.blocks,
+        chunks: header.chunks,
+        raw: tally.raw,
+        fill: tally.fill,
+        skip: tally.skip,
+        crc: tally.crc,
+    })
 }
 
 /// Reads the header and every chunk of the sparse file `from`. Of a chunk's data only the word of a
@@ -46,5 +60,8 @@ pub fn read_sparse<F: Files>(files: &mut F, from: &str) -> Result<SparseView, Sp
     ensures view { IfOk result IsView }
     ensures answers { F.told → Answers (sparse_of (F.file files.old from.now)) result }
 {
-    Err(SparseFault::FileFault)
+    let len = length_of(files, from)?;
+    let header = read_header(files, from, len)?;
+    let tally = read_tally(files, from, len, header)?;
+    close(header, tally)
 }
