@@ -46,6 +46,12 @@ HasCause before now (fault.BadMagic at) = IsField at
 HasCause before now (fault.BadChunk k) = k < 2 ^ 32 - 1
 HasCause before now (fault.Counts want got) = want ≢ got
 
+-- what can be refused at chunk number k: no other chunk is bad, and no sum is looked at
+abbrev pub IsFaultAt : ℕ → SparseFault → Type 0
+IsFaultAt k (fault.BadChunk j) = j ≡ k
+IsFaultAt k (fault.Counts want got) = ⊥
+IsFaultAt k refusal = Unit {0}
+
 -- the one refusal of a whole header
 abbrev pub IsBadMagic : SparseFault → Type 0
 IsBadMagic (fault.BadMagic at) = IsField at

@@ -57,22 +57,6 @@ impl Cursor {
             block: 0,
         }
     }
-
-    /// The place behind a chunk that stands at this one, in blocks of `block` bytes.
-    pub fn behind(self, block: u32, chunk: &Chunk) -> Cursor
-        requires number { self.chunk + 1 < 2 ^ 32 }
-        requires bounded { IsCursor self }
-        requires at { chunk.now.at ≡ self.at + 12 }
-        requires data { 12 + data_len chunk.now.kind block chunk.now.count < 2 ^ 32 }
-        ensures exact { result ≡ behind block self chunk.now }
-        ensures bounded { IsCursor result }
-    {
-        Cursor {
-            chunk: self.chunk + 1,
-            at: chunk.at + data_len(chunk.kind, block, chunk.count),
-            block: self.block + u64::from(chunk.count),
-        }
-    }
 }
 
 /// What a chunk's header says: its kind and blocks.
@@ -131,5 +115,21 @@ pub fn tag_in(head: &[u8], block: u32) -> Option<Tag>
         Some(Tag { kind, count })
     } else {
         None
+    }
+}
+
+/// The place behind a chunk that stands at a cursor, in blocks of `block` bytes.
+pub fn behind(cursor: Cursor, block: u32, chunk: &Chunk) -> Cursor
+    requires number { cursor.chunk + 1 < 2 ^ 32 }
+    requires bounded { IsCursor cursor }
+    requires at { chunk.now.at ≡ cursor.at + 12 }
+    requires data { 12 + data_len chunk.now.kind block chunk.now.count < 2 ^ 32 }
+    ensures exact { result ≡ behind block cursor chunk.now }
+    ensures bounded { IsCursor result }
+{
+    Cursor {
+        chunk: cursor.chunk + 1,
+        at: chunk.at + data_len(chunk.kind, block, chunk.count),
+        block: cursor.block + u64::from(chunk.count),
     }
 }

@@ -2,10 +2,11 @@
 ghost use Rattle.std.specs.Prelude.{◌≡◌, IfErr};
 ghost use Rattle.outside.specs.Counts.{NoneFell};
 ghost use Rattle.outside.specs.Files.{bytes_of};
-ghost use Rattle.sparse_reader.specs.Answers.{Answers, HasCause, Moves, MovesBy};
+ghost use Rattle.sparse_reader.specs.Answers.{Answers, HasCause, IsFaultAt, Moves, MovesBy};
 ghost use Rattle.sparse_reader.specs.Chunks.{IsCursor};
 ghost use Rattle.sparse_reader.specs.Sparse.{block_of, next_of};
 
+use crate::chunk::behind;
 use crate::parts::{length_of, read_chunk, read_header};
 use crate::{Chunk, Cursor, SparseFault};
 use outside::Files;
@@ -22,6 +23,7 @@ pub fn next_chunk<F: Files>(
     ensures bounded { IsCursor cursor.new }
     ensures none_fell { NoneFell (F.counts files.old) (F.counts files.new) }
     ensures cause { IfErr result (HasCause (F.counts files.old) (F.counts files.new)) }
+    ensures fault { IfErr result (IsFaultAt cursor.old.chunk) }
     ensures same_files { F.file files.new ≡ F.file files.old }
     ensures moved { Moves cursor.old result cursor.new }
     ensures moved_by { F.told → MovesBy (block_of (bytes_of (F.file files.old) from.now)) cursor.old result cursor.new }
@@ -33,6 +35,6 @@ pub fn next_chunk<F: Files>(
         return Ok(None);
     }
     let chunk = read_chunk(files, from, len, header.block, *cursor)?;
-    *cursor = cursor.behind(header.block, &chunk);
+    *cursor = behind(*cursor, header.block, &chunk);
     Ok(Some(chunk))
 }

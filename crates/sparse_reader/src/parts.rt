@@ -2,7 +2,7 @@
 ghost use Rattle.std.specs.Prelude.{◌≡◌, ℕ, ◌+◌, ◌^◌, ◌<◌, ◌≤◌, IfErr, IfOk, IsTrue, length, true};
 ghost use Rattle.outside.specs.Counts.{NoneFell};
 ghost use Rattle.outside.specs.Files.{IsThere, bytes_of};
-ghost use Rattle.sparse_reader.specs.Answers.{Answers, HasCause, HasForm, HasLength, IsStep, Reads, most_bytes};
+ghost use Rattle.sparse_reader.specs.Answers.{Answers, HasCause, HasForm, IsFaultAt, HasLength, IsStep, Reads, most_bytes};
 ghost use Rattle.sparse_reader.specs.Chunks.{IsCursor, behind, chunk_at, data_len, may_have, word_at};
 ghost use Rattle.sparse_reader.specs.Header.{header_of, is_block, part_of};
 
@@ -16,6 +16,7 @@ use outside::{FileErr, Files, FillFault, fill};
 pub fn length_of<F: Files>(files: &mut F, from: &str) -> Result<u64, SparseFault>
     ensures none_fell { NoneFell (F.counts files.old) (F.counts files.new) }
     ensures cause { IfErr result (HasCause (F.counts files.old) (F.counts files.new)) }
+    ensures fault { (k : ℕ) → IfErr result (IsFaultAt k) }
     ensures same_files { F.file files.new ≡ F.file files.old }
     ensures there { F.told → HasLength (F.file files.old) from.now result }
 {
@@ -39,6 +40,7 @@ fn read_part<F: Files>(
     requires there { F.told → IsThere (F.file files.old) from.now (len ≡ length (bytes_of (F.file files.old) from.now)) }
     ensures none_fell { NoneFell (F.counts files.old) (F.counts files.new) }
     ensures cause { IfErr result (HasCause (F.counts files.old) (F.counts files.new)) }
+    ensures fault { (k : ℕ) → IfErr result (IsFaultAt k) }
     ensures same_files { F.file files.new ≡ F.file files.old }
     ensures there { F.told → Reads (part_of (bytes_of (F.file files.old) from.now) at (length buf.old)) buf.new result }
 {
@@ -58,6 +60,7 @@ pub fn read_header<F: Files>(files: &mut F, from: &str, len: u64) -> Result<Head
     requires there { F.told → IsThere (F.file files.old) from.now (len ≡ length (bytes_of (F.file files.old) from.now)) }
     ensures none_fell { NoneFell (F.counts files.old) (F.counts files.new) }
     ensures cause { IfErr result (HasCause (F.counts files.old) (F.counts files.new)) }
+    ensures fault { (k : ℕ) → IfErr result (IsFaultAt k) }
     ensures same_files { F.file files.new ≡ F.file files.old }
     ensures block { IfOk result (λ header. IsTrue (is_block header.block)) }
     ensures answers { F.told → Answers (header_of (bytes_of (F.file files.old) from.now)) result }
@@ -83,6 +86,7 @@ fn read_word<F: Files>(
     requires there { F.told → IsThere (F.file files.old) from.now (len ≡ length (bytes_of (F.file files.old) from.now)) }
     ensures none_fell { NoneFell (F.counts files.old) (F.counts files.new) }
     ensures cause { IfErr result (HasCause (F.counts files.old) (F.counts files.new)) }
+    ensures fault { (k : ℕ) → IfErr result (IsFaultAt k) }
     ensures same_files { F.file files.new ≡ F.file files.old }
     ensures form { IfOk result (HasForm block tag.kind tag.count) }
     ensures answers { F.told → Answers (word_at (bytes_of (F.file files.old) from.now) block at tag) result }
@@ -113,6 +117,7 @@ pub fn read_chunk<F: Files>(
     requires there { F.told → IsThere (F.file files.old) from.now (len ≡ length (bytes_of (F.file files.old) from.now)) }
     ensures none_fell { NoneFell (F.counts files.old) (F.counts files.new) }
     ensures cause { IfErr result (HasCause (F.counts files.old) (F.counts files.new)) }
+    ensures fault { IfErr result (IsFaultAt cursor.chunk) }
     ensures same_files { F.file files.new ≡ F.file files.old }
     ensures data { IfOk result (λ chunk. 12 + data_len chunk.kind block chunk.count < 2 ^ 32) }
     ensures step { IfOk result (λ chunk. IsStep block cursor chunk (behind block cursor chunk)) }

@@ -6,6 +6,7 @@ ghost use Rattle.sparse_reader.specs.Answers.{Answers, HasCause};
 ghost use Rattle.sparse_reader.specs.Header.{is_block};
 ghost use Rattle.sparse_reader.specs.Tally.{IsTally, nothing, tally_in, with_chunk};
 
+use crate::chunk::behind;
 use crate::header::Header;
 use crate::parts::read_chunk;
 use crate::{Chunk, ChunkKind, Cursor, SparseFault};
@@ -90,7 +91,7 @@ pub fn read_tally<F: Files>(
     while cursor.chunk < header.chunks {
         let chunk = read_chunk(files, from, len, header.block, cursor)?;
         tally = tally.with(&chunk);
-        cursor = cursor.behind(header.block, &chunk);
+        cursor = behind(cursor, header.block, &chunk);
     }
     Ok(tally)
 }
