@@ -42,6 +42,18 @@ fn sparse(alloc: Global, blocks: u8, chunks: u8, parts: &[&[u8]]) -> Result<Vec<
     Ok(bytes)
 }
 
+/// Changes bytes from a place on.
+fn put(rt: &impl Abort, bytes: &mut [u8], place: usize, new: &[u8]) {
+    assert!(rt; place <= bytes.len() && new.len() <= bytes.len() - place);
+    bytes[place..place + new.len()].copy_from_slice(new);
+}
+
+/// The first `len` bytes.
+fn cut<'a>(rt: &impl Abort, bytes: &'a [u8], len: usize) -> &'a [u8] {
+    assert!(rt; len <= bytes.len());
+    &bytes[..len]
+}
+
 /// What a read is to answer of these bytes.
 fn reads(
     rt: &impl Abort,
@@ -92,20 +104,20 @@ fn a_half_covered_image(rt: HostRuntime) -> Result<(), Fail> {
     reads(
         &rt,
         alloc,
-        &bytes[..4147],
+        cut(&rt, &bytes, 4147),
         Err(SparseFault::Short { at: 4147 }),
     )?;
     reads(
         &rt,
         alloc,
-        &bytes[..4135],
+        cut(&rt, &bytes, 4135),
         Err(SparseFault::Short { at: 4135 }),
     )?;
     // The checksum and what stands behind the last chunk are no fault.
-    bytes[24] = 1;
+    put(&rt, &mut bytes, 24, &[1]);
     bytes.push(7)?;
     reads(&rt, alloc, &bytes, Ok(HALF))?;
-    bytes[16] = 3;
+    put(&rt, &mut bytes, 16, &[3]);
     reads(
         &rt,
         alloc,
@@ -154,12 +166,22 @@ fn fields_of_the_header(rt: HostRuntime) -> Result<(), Fail> {
         (13, 0, 12),
     ] {
         let mut bytes = half_covered(alloc)?;
-        bytes[place] = byte;
+        put(&rt, &mut bytes, place, &[byte]);
         reads(&rt, alloc, &bytes, Err(SparseFault::BadMagic { at }))?;
         // The first one counts, and it is looked at only in a whole header.
-        bytes[12] = 1;
-        reads(&rt, alloc, &bytes[..28], Err(SparseFault::BadMagic { at }))?;
-        reads(&rt, alloc, &bytes[..27], Err(SparseFault::Short { at: 27 }))?;
+        put(&rt, &mut bytes, 12, &[1]);
+        reads(
+            &rt,
+            alloc,
+            cut(&rt, &bytes, 28),
+            Err(SparseFault::BadMagic { at }),
+        )?;
+        reads(
+            &rt,
+            alloc,
+            cut(&rt, &bytes, 27),
+            Err(SparseFault::Short { at: 27 }),
+        )?;
     }
     Ok(())
 }
@@ -179,7 +201,7 @@ fn chunks_that_are_refused(rt: HostRuntime) -> Result<(), Fail> {
         (&CRC[..], 4, 1),
     ] {
         let mut bytes = sparse(alloc, 9, 9, &[&FILL, chunk])?;
-        bytes[44 + place] = byte;
+        put(&rt, &mut bytes, 44 + place, &[byte]);
         reads(&rt, alloc, &bytes, Err(SparseFault::BadChunk { k: 1 }))?;
     }
     // A raw chunk that says 4,294,967,295 blocks, or 2^20 of them whose bytes are 2^32, and a total of 12.
@@ -192,7 +214,7 @@ fn chunks_that_are_refused(rt: HostRuntime) -> Result<(), Fail> {
     }
     // A header that says 4,294,967,295 chunks.
     let mut bytes = sparse(alloc, 2, 0, &[])?;
-    bytes[20..24].copy_from_slice(&all);
+    put(&rt, &mut bytes, 20, &all);
     reads(&rt, alloc, &bytes, Err(SparseFault::Short { at: 28 }))
 }
 
@@ -320,7 +342,7 @@ fn words_and_refusals_at_a_cursor(rt: HostRuntime) -> Result<(), Fail> {
         gives(&rt, &mut files, cursor, want, after);
     }
     let mut bytes = sparse(alloc, 9, 0, &[])?;
-    bytes[4] = 0;
+    put(&rt, &mut bytes, 4, &[0]);
     files.put("s", &bytes)?;
     gives(
         &rt,
@@ -329,7 +351,7 @@ fn words_and_refusals_at_a_cursor(rt: HostRuntime) -> Result<(), Fail> {
         Err(SparseFault::BadMagic { at: 4 }),
         start,
     );
-    files.put("s", &bytes[..27])?;
+    files.put("s", cut(&rt, &bytes, 27))?;
     gives(
         &rt,
         &mut files,
