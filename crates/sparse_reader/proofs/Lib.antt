@@ -1,0 +1,4 @@
+-- lemmas
+pub mod ChunkLemmas
+pub mod TallyLemmas
+pub mod ViewLemmas
