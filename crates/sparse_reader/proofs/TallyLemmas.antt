@@ -1,18 +1,16 @@
 -- The counts of chunks, one chunk after another.
-use Rattle.std.proofs.Common.{◌≡◌, ℕ, zero, suc, ◌+◌, ◌-◌, ◌<◌, ◌≤◌, List, [], ◌∷◌, cond, count_by, sum_by, Result, Ok, Err, refl, ap, sym, ◌∙◌, add-zero, zero-add, arith}
+use Rattle.std.proofs.Common.{◌≡◌, ℕ, suc, ◌+◌, ◌-◌, ◌<◌, ◌≤◌, List, [], ◌∷◌, cond, Result, Ok, Err, refl, ap, ◌∙◌, add-zero, arith}
 use Rattle.std.proofs.lemmas.List.Sums.{sum_by-cons}
-use Rattle.sparse_reader.specs.Answers.{Answers, Refuses}
+use Rattle.sparse_reader.specs.Answers.{Refuses}
 use Rattle.sparse_reader.specs.Bind.{◌>>=◌}
-use Rattle.sparse_reader.specs.Chunks.{behind, chunk_at, chunks_from, start}
-use Rattle.sparse_reader.specs.Header.{header_of}
-use Rattle.sparse_reader.specs.Tally.{blocks_of, count_of, is_kind, nothing, one_if, tally_in, tally_of, with_chunk}
+use Rattle.sparse_reader.specs.Chunks.{behind, chunk_at, chunks_from}
+use Rattle.sparse_reader.specs.Tally.{blocks_of, count_of, is_kind, one_if, with_chunk}
 use Rattle.sparse_reader.specs.declared.chunk.Chunk.{Chunk}
 use Rattle.sparse_reader.specs.declared.chunk.ChunkKind.{ChunkKind}
 use Rattle.sparse_reader.specs.declared.chunk.ChunkKind.TheVariants.{Raw, Fill, Skip, Crc}
 use Rattle.sparse_reader.specs.declared.chunk.Cursor.{Cursor}
 use Rattle.sparse_reader.specs.declared.fault.SparseFault.{SparseFault}
 use Rattle.sparse_reader.specs.declared.fault.SparseFault.TheVariants.{BadMagic, BadChunk, Short, Counts, Missing, FileFault}
-use Rattle.sparse_reader.specs.declared.header.Header.{Header}
 use Rattle.sparse_reader.specs.declared.tally.Tally.{Tally}
 
 -- the counts with those of more chunks
@@ -76,18 +74,6 @@ tallied_refused bytes block n c t e h = rw h refl
 pub tallied_none : (bytes : List ℕ) (block : ℕ) (c : Cursor) (t : Tally) → tallied bytes block 0 c t ≡ Ok t
 unfolding chunks_from
 tallied_none bytes block c t = ap Ok (same_counts (plus t []) t (add-zero t.raw) (add-zero t.fill) (add-zero t.skip) (add-zero t.crc) (add-zero t.blocks))
-
-plus_nothing : (found : Result (List Chunk) SparseFault) → (found >>= λ chunks. Ok (tally_of chunks)) ≡ (found >>= λ rest. Ok (plus nothing rest))
-plus_nothing (Ok chunks) =
-    let same = same_counts (tally_of chunks) (plus nothing chunks)
-    (sym (zero-add (count_of Raw chunks))) (sym (zero-add (count_of Fill chunks))) (sym (zero-add (count_of Skip chunks)))
-    (sym (zero-add (count_of Crc chunks))) (sym (zero-add (blocks_of chunks))) in
-    ap Ok same
-plus_nothing (Err e) = refl
-
--- all chunks of a file
-pub tallied_all : (bytes : List ℕ) (header : Header) → tally_in bytes header ≡ tallied bytes header.block header.chunks start nothing
-tallied_all bytes header = plus_nothing (chunks_from bytes header.block header.chunks start)
 
 refused_first : (bytes : List ℕ) (block n : ℕ) (c : Cursor) (t : Tally) (e : SparseFault) → Refuses (chunk_at bytes block c) e → Refuses (tallied bytes block (suc n) c t) e
 refused_first bytes block n c t FileFault h = tt

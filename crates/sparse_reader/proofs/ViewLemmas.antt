@@ -1,20 +1,18 @@
 -- Files that are a header and its chunks.
-use Rattle.std.proofs.Common.{◌≡◌, ◌≢◌, ℕ, zero, suc, ◌+◌, ◌<◌, ◌≤◌, ◌==◌, List, [], ◌∷◌, length, take, slice_index_or, nat_lt, Bool, true, false, if◌then◌else◌, Option, Some, None, Result, Ok, Err, refl, ap, subst, sym, ◌∙◌, arith}
+use Rattle.std.proofs.Common.{◌≡◌, ℕ, ◌<◌, ◌≤◌, ◌==◌, List, length, take, slice_index_or, nat_lt, Bool, true, false, if◌then◌else◌, Some, None, Result, Ok, Err, refl, ap, subst, sym, ◌∙◌, arith}
 use Rattle.std.proofs.lemmas.Bool.Decides.{nat_tests}
 use Rattle.std.proofs.lemmas.Bool.{eqb-true, eq-eqb}
 use Rattle.std.proofs.lemmas.List.{length-take-le}
 use Rattle.sparse_reader.specs.Bind.{◌>>=◌}
-use Rattle.sparse_reader.specs.Chunks.{AreChunks, behind, chunk_at, chunks_from, cursor_after, start}
+use Rattle.sparse_reader.specs.Chunks.{AreChunks, chunks_from, cursor_after, start}
 use Rattle.sparse_reader.specs.Header.{header_of}
-use Rattle.sparse_reader.specs.Laws.{ChunksComeInOrder, ComeInOrder, ViewsAreOfChunks}
-use Rattle.sparse_reader.specs.Sparse.{IsSparse, chunk_below, next_in, view_in}
+use Rattle.sparse_reader.specs.Laws.{ChunksComeInOrder, ViewsAreOfChunks}
+use Rattle.sparse_reader.specs.Sparse.{IsSparse, next_in, view_in}
 use Rattle.sparse_reader.specs.Tally.{blocks_of, closed, tally_in, tally_of, view_of}
 use Rattle.sparse_reader.specs.declared.chunk.Chunk.{Chunk}
-use Rattle.sparse_reader.specs.declared.chunk.Cursor.{Cursor}
 use Rattle.sparse_reader.specs.declared.fault.SparseFault.{SparseFault}
 use Rattle.sparse_reader.specs.declared.fault.SparseFault.TheVariants.{Counts}
 use Rattle.sparse_reader.specs.declared.header.Header.{Header}
-use Rattle.sparse_reader.specs.declared.tally.Tally.{Tally}
 use Rattle.sparse_reader.specs.declared.view.SparseView.{SparseView}
 use Rattle.sparse_reader.proofs.ChunkLemmas.{behind_there, chunk_there, found, number_after, stand}
 

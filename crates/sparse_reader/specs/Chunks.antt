@@ -1,5 +1,5 @@
 -- The chunks of a sparse file: each a header of 12 bytes and its data, end to end behind the file's header.
-use Rattle.std.specs.Prelude.{◌≡◌, ℕ, zero, suc, ◌+◌, ◌-◌, ◌*◌, ◌^◌, ◌≤◌, ◌==◌, Bool, true, ◌&&◌, List, [], ◌∷◌, Option, None, Some, Result, Ok, Err, if◌then◌else◌}
+use Rattle.std.specs.Prelude.{◌≡◌, ℕ, zero, suc, ◌+◌, ◌-◌, ◌*◌, ◌^◌, ◌≤◌, ◌==◌, Bool, true, ◌&&◌, List, [], ◌∷◌, Option, None, Some, Result, Ok, if◌then◌else◌}
 use Rattle.byteorder.specs.Endian.{little_number}
 use Rattle.sparse_reader.specs.Bind.{◌>>=◌, or_else}
 use Rattle.sparse_reader.specs.Header.{number_in, part_of}

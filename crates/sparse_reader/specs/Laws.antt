@@ -1,5 +1,5 @@
 -- The laws of the chunks of a sparse file.
-use Rattle.std.specs.Prelude.{◌≡◌, ℕ, ◌+◌, ◌<◌, ◌↔◌, List, length, take, slice_index_or, Option, None, Some, Ok}
+use Rattle.std.specs.Prelude.{◌≡◌, ℕ, ◌+◌, ◌<◌, ◌↔◌, List, length, take, slice_index_or, None, Some, Ok}
 use Rattle.sparse_reader.specs.Chunks.{AreChunks, behind, chunks_from, cursor_after, start}
 use Rattle.sparse_reader.specs.Sparse.{IsSparse, next_in, view_in}
 use Rattle.sparse_reader.specs.Tally.{tally_of, view_of}

@@ -1,5 +1,5 @@
 -- A sparse file as a whole.
-use Rattle.std.specs.Prelude.{◌≡◌, ℕ, nat_lt, List, length, take, Option, None, Some, Result, Ok, Err, if◌then◌else◌}
+use Rattle.std.specs.Prelude.{◌≡◌, ℕ, nat_lt, List, length, take, Option, None, Some, Result, Ok, if◌then◌else◌}
 use Rattle.sparse_reader.specs.Bind.{◌>>=◌, or_else}
 use Rattle.sparse_reader.specs.Chunks.{AreChunks, chunk_at, start}
 use Rattle.sparse_reader.specs.Header.{header_of, number_in}
