@@ -1,5 +1,5 @@
 -- The bytes of parts: each part of a list has its own where the parts lie apart.
-use Rattle.std.specs.Prelude.{◌≡◌, ℕ, zero, suc, ◌+◌, ◌-◌, ◌<◌, ◌≤◌, List, [], ◌∷◌, ◌++◌, All, AllPairs, Contains, Option, Some, None, Bool, true, false, if◌then◌else◌, length, slice_index_or}
+use Rattle.std.specs.Prelude.{◌≡◌, ℕ, zero, suc, ◌+◌, ◌-◌, ◌<◌, ◌≤◌, List, [], ◌∷◌, ◌++◌, All, Contains, Option, Some, None, Bool, true, false, if◌then◌else◌, length, slice_index_or}
 use Rattle.std.specs.Option.{option_or}
 use Rattle.std.proofs.Common.{refl, ◌∙◌, sym, ap, subst, arith}
 use Rattle.std.proofs.lemmas.Bool.{false_from_ne_true}

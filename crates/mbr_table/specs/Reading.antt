@@ -1,5 +1,5 @@
 -- What the bytes of an image read as, an image being the byte at each offset. Nothing here knows how a table is written.
-use Rattle.std.specs.Prelude.{◌≡◌, ℕ, ◌+◌, ◌*◌, ◌^◌, ◌<◌, ◌≤◌, ◌==◌, List, [], ◌∷◌, length, true, false}
+use Rattle.std.specs.Prelude.{◌≡◌, ℕ, ◌+◌, ◌*◌, ◌^◌, ◌<◌, ◌≤◌, ◌==◌, [], ◌∷◌, length, true, false}
 use Rattle.base_fields.specs.Fields.{byte_of, number_at}
 use Rattle.mbr_table.specs.Mbr.{mbr_fields, entry_of, is_empty}
 use Rattle.mbr_table.specs.declared.mbr.MbrEntry.{MbrEntry}
