@@ -3,6 +3,7 @@ use Rattle.std.specs.Prelude.{◌≡◌, ℕ, ◌+◌, ◌-◌, ◌*◌, ◌/◌
 use Rattle.std.proofs.Common.{refl, ◌∙◌, ap, subst, arith, inl, inr}
 use Rattle.std.proofs.lemmas.Bool.Decides.{nat_tests}
 use Rattle.gpt_table.specs.Gpt.{back_byte, back_entries_at, entries_byte, entry_sectors, front_byte, last_sector}
+use Rattle.gpt_table.proofs.Inside.{behind_entries}
 use Rattle.gpt_table.specs.Parts.{GptHolds, Part, covers, gpt_byte, part_byte}
 
 covered : (p : Part) (o : ℕ) → o < p.len → covers p (p.at + o) ≡ true
@@ -28,10 +29,6 @@ there_if false ps is = cc
 behind_header : (entries_at z : ℕ) → (z ≡ 512) ⊎ (z ≡ 4096) → 2 ≤ entries_at → z + z ≤ entries_at * z
 behind_header entries_at z (inl e) h = rw e (omega arith)
 behind_header entries_at z (inr e) h = rw e (omega arith)
-
-behind_entries : (at next z : ℕ) → (z ≡ 512) ⊎ (z ≡ 4096) → at + 16384 / z ≤ next → at * z + 16384 ≤ next * z
-behind_entries at next z (inl e) h = let g : at + 32 ≤ next = rw e at h in rw e (omega arith)
-behind_entries at next z (inr e) h = let g : at + 4 ≤ next = rw e at h in rw e (omega arith)
 
 pub gpt_holds : GptHolds
 unfolding gpt_byte

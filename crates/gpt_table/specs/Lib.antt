@@ -6,4 +6,5 @@ pub mod Span
 pub mod Gpt
 pub mod Reading
 pub mod Parts
+pub mod Names
 pub mod Flags
