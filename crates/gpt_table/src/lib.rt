@@ -11,6 +11,6 @@ mod table;
 pub use entry::GptEntry;
 pub use flags::Flags;
 pub use header::GptHeader;
-pub use laws::{gpt_holds, gpt_reads_back};
+pub use laws::{gpt_holds, gpt_lies_within, gpt_reads_back};
 pub use names::name_units;
 pub use table::{GptHeads, GptSpec, gpt};
