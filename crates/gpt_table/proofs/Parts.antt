@@ -72,7 +72,7 @@ gpt_lies_within spec fits room =
     (All-cons P (entries_part spec) (if spec.backup then backup else []) (entries_inside spec room) behind)
 
 -- a byte of parts that end at an offset or before it stands before it
-part_byte-before : (ps : List Part) (end o b : ℕ) → All (λ (p : Part). p.at + p.len ≤ end) ps → part_byte ps o ≡ Some b → o < end
+pub part_byte-before : (ps : List Part) (end o b : ℕ) → All (λ (p : Part). p.at + p.len ≤ end) ps → part_byte ps o ≡ Some b → o < end
 part_byte-before ps end o b ends found = elim (cases_lt o end) [
   | inl inside ↦ inside
   | inr past ↦
