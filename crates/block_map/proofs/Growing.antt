@@ -6,7 +6,8 @@ use Rattle.std.proofs.lemmas.List.Elements.{All-append, All-nil}
 use Rattle.std.specs.Prelude.{All}
 use Rattle.block_map.specs.declared.maps.BlockMap.{BlockMap}
 use Rattle.block_map.specs.declared.maps.Range.{Range}
-use Rattle.block_map.specs.Maps.{AreRanges, Follows, IsMap, IsNext, IsPowerBetween}
+use Rattle.base_fields.specs.Numbers.{IsPowerBetween}
+use Rattle.block_map.specs.Maps.{AreRanges, Follows, IsMap, IsNext}
 
 -- what a range follows ends before it
 pub ends_before : (rs : List Range) (r : Range) → AreRanges rs → Follows rs r → All (λ q. q.last < r.first) rs

@@ -80,11 +80,11 @@ pub ranges_have_units : (m : BlockMap) (unit : ℕ) → IsMap m → 0 < unit →
 ranges_have_units m unit h some =
     let many : length (units_by_range m unit) ≡ length m.ranges = length-map m.ranges (λ (x : Range). pieces unit (range_span m x)) in
     let filled : All (λ (row : List Span). 0 < length row) (units_by_range m unit) = λ r d below.
-        let e : Range = record { first = 0; last = 0; digest = None } in
-        let there : r < length m.ranges = omega arith in
-        let span : IsSpan m (get_or m.ranges r e) = is_span m (get_or m.ranges r e) (omega (arith, h.block.not_below)) (h.filled r e there) (h.below r e there) in
-        let first : 0 / unit < div_ceil (range_span m (get_or m.ranges r e)).len unit = piece_below unit (range_span m (get_or m.ranges r e)).len 0 some span.filled in
-        rw (get_or-map (λ (x : Range). pieces unit (range_span m x)) m.ranges r e d there) (omega (arith, pieces_length unit (range_span m (get_or m.ranges r e)))) in
+    let e : Range = record { first = 0; last = 0; digest = None } in
+    let there : r < length m.ranges = omega arith in
+    let span : IsSpan m (get_or m.ranges r e) = is_span m (get_or m.ranges r e) (omega (arith, h.block.not_below)) (h.filled r e there) (h.below r e there) in
+    let first : 0 / unit < div_ceil (range_span m (get_or m.ranges r e)).len unit = piece_below unit (range_span m (get_or m.ranges r e)).len 0 some span.filled in
+    rw (get_or-map (λ (x : Range). pieces unit (range_span m x)) m.ranges r e d there) (omega (arith, pieces_length unit (range_span m (get_or m.ranges r e)))) in
     record { as_many = many; filled = filled; firsts = firsts_rise_on (units_by_range m unit) filled }
 
 -- ---- a unit's bytes
@@ -96,11 +96,11 @@ unit_is m unit k u h some is =
     let at : get_or us k u ≡ u = get_or_from_slice_get us k u u is in
     let filled : 0 < u.len = subst (λ (s : Span). 0 < s.len) at (cut.filled k u below) in
     let mapped : (o : ℕ) → has u o ≡ true → is_mapped m o ≡ true = λ o inside.
-        let bounds : (u.at ≤ o) × (o < u.at + u.len) = in_has u o inside in
-        sym (cut.exact o)
-        ∙ covers_at us k o u below
-        (subst (λ (s : Span). s.at ≤ o) (sym at) bounds.0)
-        (subst (λ (s : Span). o < s.at + s.len) (sym at) bounds.1) in
+    let bounds : (u.at ≤ o) × (o < u.at + u.len) = in_has u o inside in
+    sym (cut.exact o)
+    ∙ covers_at us k o u below
+    (subst (λ (s : Span). s.at ≤ o) (sym at) bounds.0)
+    (subst (λ (s : Span). o < s.at + s.len) (sym at) bounds.1) in
     let last : is_mapped m (u.at + u.len - 1) ≡ true = mapped (u.at + u.len - 1) (has_in u (u.at + u.len - 1) (omega arith) (omega arith)) in
     let inside : u.at + u.len - 1 < m.size = true_below (u.at + u.len - 1) m.size (each_true (nat_lt (u.at + u.len - 1) m.size) (covers (runs_of m) ((u.at + u.len - 1) / m.block)) last).0 in
     record {

@@ -2,24 +2,23 @@
 use Rattle.std.specs.Prelude.{◌≡◌, ℕ, ◌+◌, ◌-◌, ◌*◌, ◌/◌, ◌^◌, ◌<◌, ◌≤◌, min, Bool, ◌&&◌, nat_lt, IsTrue, Some, None}
 use Rattle.std.specs.Prelude.{List, length, take, drop, map, sum_by, slice_set, slice_index_or, All, AllPairs}
 use Rattle.std.specs.List.{flat_map}
-use Rattle.std.specs.Int.{div_ceil, is_power_of_two}
+use Rattle.std.specs.Int.{div_ceil}
 use Rattle.sha2.specs.Sha256.{sha256}
+use Rattle.base_fields.specs.Numbers.{IsPowerBetween}
 use Rattle.base_fields.specs.declared.spans.Span.{Span}
 use Rattle.span_cover.specs.Cover.{AreTouchedRuns, covers}
 use Rattle.block_map.specs.declared.maps.BlockMap.{BlockMap}
 use Rattle.block_map.specs.declared.maps.Range.{Range}
 
--- a power of two between two numbers, which may be either
-pub record IsPowerBetween (least most n : ℕ) : Type 0 where
-  pub power : IsTrue (is_power_of_two n)
-  pub not_below : least ≤ n
-  pub not_above : n ≤ most
+-- how many ranges a map may have
+abbrev pub max_ranges : ℕ
+max_ranges = 262144
 
 -- what holds of a block map: its ranges ascend and don't meet, and the last block of each begins below the size
 pub record IsMap (m : BlockMap) : Type 0 where
   pub size : m.size ≤ 2 ^ 43
   pub block : IsPowerBetween 512 65536 m.block
-  pub few : length m.ranges ≤ 262144
+  pub few : length m.ranges ≤ max_ranges
   pub filled : All (λ r. r.first ≤ r.last) m.ranges
   pub ascend : AllPairs (λ r later. r.last < later.first) m.ranges
   pub below : All (λ r. r.last * m.block < m.size) m.ranges
@@ -35,7 +34,7 @@ Follows rs r = (d : Range) → 0 < length rs → (slice_index_or rs (length rs -
 
 -- a map has room for this range behind its own
 pub record IsNext (m : BlockMap) (r : Range) : Type 0 where
-  pub room : length m.ranges < 262144
+  pub room : length m.ranges < max_ranges
   pub filled : r.first ≤ r.last
   pub follows : Follows m.ranges r
   pub below : r.last * m.block < m.size

@@ -4,7 +4,8 @@ use Rattle.base_fields.specs.declared.spans.Span.{Span}
 use Rattle.span_cover.specs.Cover.{has}
 use Rattle.block_map.specs.declared.maps.BlockMap.{BlockMap}
 use Rattle.block_map.specs.declared.maps.Range.{Range}
-use Rattle.block_map.specs.Maps.{AreRanges, Follows, IsMap, IsNext, IsPowerBetween, is_mapped, part_of, parts_of, range_span}
+use Rattle.base_fields.specs.Numbers.{IsPowerBetween}
+use Rattle.block_map.specs.Maps.{AreRanges, Follows, IsMap, IsNext, is_mapped, max_ranges, part_of, parts_of, range_span}
 use Rattle.block_map.specs.Pieces.{piece}
 use Rattle.block_map.specs.Units.{IsRangeOf, first_of, joined, units_by_range, units_of}
 
@@ -15,28 +16,34 @@ MapsBegin = (size block : ℕ) → size ≤ 2 ^ 43 → IsPowerBetween 512 65536 
     IsMap (record { size = size; block = block; ranges = [] })
 
 abbrev pub MapsGrow : Type 0
-MapsGrow = (m : BlockMap) (r : Range) → IsMap m → IsNext m r → IsMap (record m { ranges = m.ranges ++ r ∷ [] })
+MapsGrow = (m : BlockMap) (r : Range) → IsMap m → IsNext m r →
+    IsMap (record m { ranges = m.ranges ++ r ∷ [] })
 
--- the same of the ranges alone, and what makes a map of them: the last block of the last one begins below the size
+-- the same of the ranges alone, and what makes a map of them: the last block of the last one begins
+-- below the size
 abbrev pub RangesGrow : Type 0
-RangesGrow = (rs : List Range) (r : Range) → AreRanges rs → r.first ≤ r.last → Follows rs r → AreRanges (rs ++ r ∷ [])
+RangesGrow = (rs : List Range) (r : Range) → AreRanges rs → r.first ≤ r.last → Follows rs r →
+    AreRanges (rs ++ r ∷ [])
 
 abbrev pub RangesMakeMaps : Type 0
-RangesMakeMaps = (m : BlockMap) → AreRanges m.ranges → m.size ≤ 2 ^ 43 → IsPowerBetween 512 65536 m.block →
-    length m.ranges ≤ 262144 →
+RangesMakeMaps = (m : BlockMap) → AreRanges m.ranges → m.size ≤ 2 ^ 43 →
+    IsPowerBetween 512 65536 m.block →
+    length m.ranges ≤ max_ranges →
     ((d : Range) → 0 < length m.ranges →
-        (slice_index_or m.ranges (length m.ranges - 1) d).last * m.block < m.size) →
+    (slice_index_or m.ranges (length m.ranges - 1) d).last * m.block < m.size) →
     IsMap m
 
 -- ---- the bytes of a range
 -- the bytes of its first j units are its first ones, and those of all its units are all
 abbrev pub FirstUnitsJoin : Type 0
-FirstUnitsJoin = (m : BlockMap) (unit r j : ℕ) (d : Range) (bytes : List ℕ) → 0 < unit → r < length m.ranges →
+FirstUnitsJoin = (m : BlockMap) (unit r j : ℕ) (d : Range) (bytes : List ℕ) → 0 < unit →
+    r < length m.ranges →
     parts_of (take j (slice_index_or (units_by_range m unit) r [])) bytes
     ≡ take (j * unit) (part_of (range_span m (slice_index_or m.ranges r d)) bytes)
 
 abbrev pub UnitsJoin : Type 0
-UnitsJoin = (m : BlockMap) (unit r : ℕ) (d : Range) (bytes : List ℕ) → 0 < unit → r < length m.ranges →
+UnitsJoin = (m : BlockMap) (unit r : ℕ) (d : Range) (bytes : List ℕ) → 0 < unit →
+    r < length m.ranges →
     parts_of (slice_index_or (units_by_range m unit) r []) bytes
     ≡ part_of (range_span m (slice_index_or m.ranges r d)) bytes
 
@@ -72,7 +79,8 @@ pub record HaveUnits (m : BlockMap) (rows : List (List Span)) : Type 0 where
   pub firsts : FirstsRise rows
 
 abbrev pub RangesHaveUnits : Type 0
-RangesHaveUnits = (m : BlockMap) (unit : ℕ) → IsMap m → 0 < unit → HaveUnits m (units_by_range m unit)
+RangesHaveUnits = (m : BlockMap) (unit : ℕ) → IsMap m → 0 < unit →
+    HaveUnits m (units_by_range m unit)
 
 -- ---- a unit's bytes
 -- it has some, at most a unit, which end within the image and are mapped
@@ -89,7 +97,8 @@ UnitsAreUnits = (m : BlockMap) (unit k : ℕ) (u : Span) → IsMap m → 0 < uni
 -- a unit ends before each later one begins
 abbrev pub UnitsAreApart : Type 0
 UnitsAreApart = (m : BlockMap) (unit k later : ℕ) (u v : Span) → IsMap m → 0 < unit → k < later →
-    slice_get (units_of m unit) k ≡ Some u → slice_get (units_of m unit) later ≡ Some v → u.at + u.len ≤ v.at
+    slice_get (units_of m unit) k ≡ Some u → slice_get (units_of m unit) later ≡ Some v →
+    u.at + u.len ≤ v.at
 
 -- a mapped offset is in a unit
 abbrev pub MappedIsInAUnit : Type 0

@@ -22,7 +22,8 @@ units_by_range m unit = map (λ r. pieces unit (range_span m r)) m.ranges
 abbrev pub units_of : BlockMap → ℕ → List Span
 units_of m unit = joined (units_by_range m unit)
 
--- what contracts see of the units of a map: the size of a unit, the image's size, and the units of each range
+-- what contracts see of the units of a map: the size of a unit, the image's size, and the units of
+-- each range
 pub record Cut : Type 0 where
   pub unit : ℕ
   pub size : ℕ

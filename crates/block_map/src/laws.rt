@@ -34,8 +34,8 @@ pub fn units_are_the_mapped_bytes()
 
 /// Nothing is done: the contract is the law of how a map is built range by range.
 ///
-/// A map without ranges is a map; it stays one where a range is put behind its last one. Ranges alone may be put
-/// together before the size is known: then only the last one's end is looked at.
+/// A map without ranges is a map; it stays one where a range is put behind its last one. Ranges alone
+/// may be put together before the size is known: then only the last one's end is looked at.
 pub fn maps_grow_by_ranges()
     ensures begin { MapsBegin }
     ensures grow { MapsGrow }
@@ -53,8 +53,8 @@ pub fn units_join_to_ranges()
 
 /// Nothing is done: the contract is the law of the numbers of units.
 ///
-/// A unit is its range's by its number from the range's first on, and each such number is one of the range's. Each
-/// range has units, so the numbers of the first ones rise, from 0 to the count.
+/// A unit is its range's by its number from the range's first on, and each such number is one of the
+/// range's. Each range has units, so the numbers of the first ones rise, from 0 to the count.
 pub fn units_have_numbers()
     ensures of_range { UnitsHaveNumbers }
     ensures of_number { NumbersAreUnits }
@@ -63,8 +63,8 @@ pub fn units_have_numbers()
 
 /// Nothing is done: the contract is the law of the unit of a number.
 ///
-/// It has bytes, a unit at most, which end within the image and are mapped; it ends before each later one begins; and
-/// each mapped offset is in one.
+/// It has bytes, a unit at most, which end within the image and are mapped; it ends before each later
+/// one begins; and each mapped offset is in one.
 pub fn units_by_number()
     ensures bounds { UnitsAreUnits }
     ensures apart { UnitsAreApart }

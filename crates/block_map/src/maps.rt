@@ -1,5 +1,6 @@
 ghost use Rattle.std.specs.Prelude.{◌≡◌, ◌+◌, ◌-◌, ◌*◌, ◌^◌, ◌<◌, ◌≤◌, All, IfOk, length, map};
-ghost use Rattle.block_map.specs.Maps.{AreRanges, HasDigestSet, IsBareMapOf, IsMap, IsPowerBetween, IsRangeBytes, block_count, blocks_in, range_span, run_of};
+ghost use Rattle.base_fields.specs.Numbers.{IsPowerBetween};
+ghost use Rattle.block_map.specs.Maps.{AreRanges, HasDigestSet, IsBareMapOf, IsMap, IsRangeBytes, block_count, blocks_in, max_ranges, range_span, run_of};
 
 use base_fields::{List, NoMemory, Span};
 use span_cover::Cover;
@@ -45,7 +46,7 @@ impl BlockMap {
     ) -> Result<BlockMap, NoMemory>
         requires size { size ≤ 2 ^ 43 }
         requires block { IsPowerBetween 512 65536 block }
-        requires few { length cover.now ≤ 262144 }
+        requires few { length cover.now ≤ max_ranges }
         ensures map { IfOk result (λ map. IsMap map) }
         ensures exact { IfOk result (λ map. IsBareMapOf cover.now size block map) }
     {

@@ -1,5 +1,6 @@
 ghost use Rattle.std.specs.Prelude.{◌≡◌, ℕ, ◌+◌, ◌*◌, ◌^◌, ◌<◌, ◌≤◌, IfOk, IfErr, OnOk, Some, length, slice_get, slice_index_or, []};
-ghost use Rattle.block_map.specs.Maps.{IsMap, IsPowerBetween};
+ghost use Rattle.base_fields.specs.Numbers.{IsPowerBetween};
+ghost use Rattle.block_map.specs.Maps.{IsMap};
 ghost use Rattle.block_map.specs.Pieces.{piece, pieces};
 ghost use Rattle.block_map.specs.Index.{IsIndex, rows_of};
 ghost use Rattle.block_map.specs.Units.{IsRangeOf, cut_of, first_of, max_units, units_by_range, units_in, units_of};
@@ -16,8 +17,8 @@ const MAX_UNITS: u64 = 4_194_304;
 
 /// The units of a map: each of its ranges, as bytes, cut from its first byte into pieces of one size, of which the
 /// last is shorter where the range's bytes ask for it. They are numbered from 0 in the order of their bytes.
-/// No call on them takes memory. Contracts see the size of a unit, the image's size, and the spans of each range's
-/// units.
+/// No call on them takes memory. Contracts see the size of a unit, the image's size, and the spans of
+/// each range's units.
 #[derive(Debug, Drop)]
 pub struct Units {
     unit: u64,
@@ -40,7 +41,11 @@ impl Model for Units {
 
     ghost use Rattle.block_map.specs.Index.{AreIndexed, rows_of};
 
-    ghost view = { λ u. record { unit = u.unit; size = u.size; rows = rows_of u.unit u.parts.items } };
+    ghost view = { λ u. record {
+      unit = u.unit;
+      size = u.size;
+      rows = rows_of u.unit u.parts.items;
+    } };
 
     ghost invariant = { λ u. AreIndexed u.unit u.size u.count u.parts.items };
 }
@@ -102,7 +107,8 @@ fn count_units(map: &BlockMap, unit: u64) -> u64
 fn index_of(alloc: Global, map: &BlockMap, unit: u64) -> Result<Vec<Part>, AllocError>
     requires map { IsMap map.now }
     requires unit { 65536 ≤ unit }
-    ensures index { IfOk result (λ parts. IsIndex unit map.now.size (length (units_of map.now unit)) parts.items) }
+    ensures index { let count = length (units_of map.now unit) in
+        IfOk result (λ parts. IsIndex unit map.now.size count parts.items) }
     ensures rows { IfOk result (λ parts. rows_of unit parts.items ≡ units_by_range map.now unit) }
 {
     let mut parts = Vec::new(alloc);
