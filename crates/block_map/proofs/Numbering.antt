@@ -1,11 +1,11 @@
 -- The numbers of units, and what holds of the unit of a number.
-use Rattle.std.proofs.Common.{◌≡◌, ℕ, ◌+◌, ◌-◌, ◌*◌, ◌/◌, ◌<◌, ◌≤◌, List, [], length, get_or, take, map, Some, None, true, inl, inr, refl, sym, ap, subst, ◌∙◌, arith}
+use Rattle.std.proofs.Common.{◌≡◌, ℕ, ◌+◌, ◌-◌, ◌/◌, ◌<◌, ◌≤◌, List, [], length, get_or, Some, None, true, inl, inr, refl, sym, ap, subst, ◌∙◌, arith}
 use Rattle.std.proofs.lemmas.Bool.{cases_lt}
 use Rattle.std.proofs.lemmas.List.{get_or-map, length-map, take_all}
 use Rattle.std.proofs.lemmas.List.Concat.{get_or-flat_map}
 use Rattle.std.proofs.lemmas.Option.{get_or_from_slice_get, slice_get-get_or, slice_get_past}
 use Rattle.std.specs.Int.{div_ceil}
-use Rattle.std.specs.Prelude.{All, IsTrue, nat_lt, slice_get}
+use Rattle.std.specs.Prelude.{All, nat_lt, slice_get}
 use Rattle.base_fields.specs.declared.spans.Span.{Span}
 use Rattle.span_cover.specs.Cover.{covers, has}
 use Rattle.span_cover.proofs.Spans.{Holder, covers_at, has_in, holder, in_has}
@@ -13,7 +13,7 @@ use Rattle.block_map.specs.declared.maps.BlockMap.{BlockMap}
 use Rattle.block_map.specs.declared.maps.Range.{Range}
 use Rattle.block_map.specs.Laws.{AreCutFrom}
 use Rattle.block_map.specs.Maps.{IsMap, is_mapped, range_span, runs_of}
-use Rattle.block_map.specs.Pieces.{piece, pieces}
+use Rattle.block_map.specs.Pieces.{pieces}
 use Rattle.block_map.specs.UnitLaws.{FirstsRise, HaveUnits, IsUnit, IsUnitOf}
 use Rattle.block_map.specs.Units.{IsRangeOf, first_of, joined, units_by_range, units_of}
 use Rattle.block_map.proofs.Index.{first_next, first_rises}

@@ -1,5 +1,5 @@
 -- Block maps: what holds of each, and the one that a set of offsets and the bytes of an image have.
-use Rattle.std.specs.Prelude.{◌≡◌, ℕ, ◌+◌, ◌-◌, ◌*◌, ◌/◌, ◌^◌, ◌<◌, ◌≤◌, min, Bool, ◌&&◌, nat_lt, IsTrue, Some, None}
+use Rattle.std.specs.Prelude.{◌≡◌, ℕ, ◌+◌, ◌-◌, ◌*◌, ◌/◌, ◌^◌, ◌<◌, ◌≤◌, min, Bool, ◌&&◌, nat_lt, Some, None}
 use Rattle.std.specs.Prelude.{List, length, take, drop, map, sum_by, slice_set, slice_index_or, All, AllPairs}
 use Rattle.std.specs.List.{flat_map}
 use Rattle.std.specs.Int.{div_ceil}

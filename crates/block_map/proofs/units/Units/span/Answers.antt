@@ -1,4 +1,4 @@
-use Rattle.std.proofs.Common.{◌≡◌, ◌+◌, ◌≤◌, ℕ, ◌∙◌, ap, subst, sym, arith}
+use Rattle.std.proofs.Common.{◌+◌, ◌≤◌, ℕ, ◌∙◌, ap, subst, sym, arith}
 use Rattle.std.specs.Prelude.{Some}
 use Rattle.base_fields.specs.declared.spans.Span.{Span}
 use Rattle.block_map.specs.Units.{Cut}
