@@ -1,47 +1,9 @@
-ghost use Rattle.std.specs.Prelude.{◌≡◌};
-ghost use Rattle.bench.specs.Meter.{IsAttached};
-
 use crate::script::{Content, Script};
 use crate::scripted::Scripted;
-use bench::{Bench, BenchErr, Dev};
-use bench_devices::{HostBench, MemBench, lists};
-use bench_trial::{close_gate, mark, put, put_since};
-use std::fs;
+use bench::{Bench, Dev};
+use bench_devices::{HostBench, lists};
 use std::process::Abort;
 use std::test::Fail;
-
-/// Whether every call on the target fails.
-fn all_fail<B: Bench>(bench: &mut B) -> bool
-    requires { IsAttached (B.meter bench.old) Dev.Target }
-{
-    let mut buf = [0u8; 1];
-    bench.length(Dev::Target).is_err()
-        && read(bench, 0, &mut buf).is_err()
-        && write(bench, 0, b"x").is_err()
-        && bench.sync(Dev::Target).is_err()
-}
-
-/// Reads where that is inside, and else fails.
-fn read<B: Bench>(bench: &mut B, at: u64, buf: &mut [u8]) -> Result<(), BenchErr>
-    requires { IsAttached (B.meter bench.old) Dev.Target }
-{
-    let len = bench.length(Dev::Target)?;
-    if at > len || buf.len() as u64 > len - at {
-        return Err(BenchErr);
-    }
-    bench.read_at(Dev::Target, at, buf)
-}
-
-/// Writes where that is inside, and else fails.
-fn write<B: Bench>(bench: &mut B, at: u64, bytes: &[u8]) -> Result<(), BenchErr>
-    requires { IsAttached (B.meter bench.old) Dev.Target }
-{
-    let len = bench.length(Dev::Target)?;
-    if at > len || bytes.len() as u64 > len - at {
-        return Err(BenchErr);
-    }
-    bench.write_at(Dev::Target, at, bytes)
-}
 
 #[test]
 fn a_device_is_lost_by_a_sync_that_failed(rt: HostRuntime) -> Result<(), Fail> {
@@ -54,7 +16,11 @@ fn a_device_is_lost_by_a_sync_that_failed(rt: HostRuntime) -> Result<(), Fail> {
     assert_eq!(rt; script.target_syncs.get(), 1);
     script.fail_next();
     assert!(rt; bench.sync(Dev::Target).is_err());
-    assert!(rt; all_fail(&mut bench));
+    let mut buf = [0u8; 1];
+    assert!(rt; bench.length(Dev::Target).is_err());
+    assert!(rt; bench.read_at(Dev::Target, 0, &mut buf).is_err());
+    assert!(rt; bench.write_at(Dev::Target, 0, b"x").is_err());
+    assert!(rt; bench.sync(Dev::Target).is_err());
     assert!(rt; bench.sync(Dev::Journal).is_ok());
     assert_eq!(rt; script.target_syncs.get(), 1);
     assert_eq!(rt; script.journal_syncs.get(), 1);
@@ -178,34 +144,17 @@ fn short_transfers_move_all(rt: HostRuntime) -> Result<(), Fail> {
 
 #[test]
 fn each_call_that_fails_is_answered(rt: HostRuntime) -> Result<(), Fail> {
-    for call in 0..9 {
+    // A write asks for the end and writes; a sync is one call.
+    for call in 0..4 {
         let script = Script::new(rt.alloc(), Content::of(b"abcd"), Content::of(b"j"));
         let mut bench = HostBench::new(Scripted { script: &script });
         assert!(rt; bench.attach(Dev::Target, "target").is_ok());
-        assert!(rt; bench.attach(Dev::Journal, "journal").is_ok());
         script.fails.set(script.calls.get().saturating_add(call));
-        let outcome = put(&mut bench, 1, b"xy", 0);
-        // A write asks for the end and writes, and a sync is one call.
-        assert_eq!(rt; outcome.is_err(), call < 6);
+        let wrote = bench.write_at(Dev::Target, 1, b"xy");
+        let synced = bench.sync(Dev::Target);
+        assert_eq!(rt; wrote.is_err(), call < 2);
+        assert_eq!(rt; synced.is_err(), call == 2);
     }
-    Ok(())
-}
-
-#[test]
-fn the_forms_of_a_journal_run(rt: HostRuntime) -> Result<(), Fail> {
-    let script = Script::new(rt.alloc(), Content::of(b"abcd"), Content::of(b"0123456789"));
-    let mut bench = HostBench::new(Scripted { script: &script });
-    assert!(rt; bench.attach(Dev::Target, "target").is_ok());
-    assert!(rt; bench.attach(Dev::Journal, "journal").is_ok());
-    assert!(rt; put_since(&mut bench, 0, b"xy", 1).is_ok());
-    assert!(rt; close_gate(&mut bench).is_ok());
-    assert!(rt; mark(&mut bench, &[]).is_ok());
-    assert!(rt; mark(&mut bench, &[0]).is_err());
-    assert_eq!(rt; script.target.get().bytes[..4], *b"xycd".as_slice());
-    assert_eq!(rt; script.journal.get().bytes[..10], *b"0D234567\09".as_slice());
-    assert_eq!(rt; script.journal_syncs.get(), 4);
-    let mut bench = MemBench::new(rt.alloc(), b"EEEE", b"\0", 1000)?;
-    assert!(rt; put(&mut bench, 1, b"abc", 0).is_ok());
     Ok(())
 }
 
@@ -213,7 +162,13 @@ fn the_forms_of_a_journal_run(rt: HostRuntime) -> Result<(), Fail> {
 fn mounts_are_listed_by_number(rt: HostRuntime) -> Result<(), Fail> {
     let text = b"21 1 8:17 / / rw - ext4 /dev/sdb1 rw\n22 21 0:5 / /8:2 rw - tmpfs tmpfs rw\n";
     // A number of a device has its lower eight bits behind the upper part.
-    for (first, second, listed) in [(8, 17, true), (0, 5, true), (8, 1, false), (8, 2, false), (8, 16, false)] {
+    for (first, second, listed) in [
+        (8, 17, true),
+        (0, 5, true),
+        (8, 1, false),
+        (8, 2, false),
+        (8, 16, false),
+    ] {
         let device: u64 = (first << 8) + second;
         assert_eq!(rt; lists(text.as_slice(), device), listed);
     }

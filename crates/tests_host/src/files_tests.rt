@@ -1,7 +1,7 @@
 use crate::script::{Content, Script};
 use crate::scripted::{Scripted, ScriptedOutput};
 use host_files::{HostFiles, HostPrinter};
-use outside::{FileErr, Files, FillFault, PrintErr, Printer, WriteErr, fill};
+use outside::{FileErr, Files, PrintErr, Printer, WriteErr};
 use std::test::Fail;
 
 #[test]
@@ -29,7 +29,6 @@ fn a_read_past_the_end_is_an_end(rt: HostRuntime) -> Result<(), Fail> {
         assert_eq!(rt; files.read_at("target", off, &mut buf), Ok(0));
     }
     assert_eq!(rt; files.read_at("target", 2, &mut buf), Ok(2));
-    assert_eq!(rt; fill(&mut files, "target", 2, &mut buf), Err(FillFault::Short { at: 4 }));
     Ok(())
 }
 

@@ -243,7 +243,8 @@ impl Print for ScriptedOutput<'_> {
         self.script.step()?;
         count(&self.script.reads);
         let mut content = self.script.target.get();
-        let _ = content.put(content.len as u64, bytes, SIZE);
+        let end = content.len as u64;
+        let _ = content.put(end, bytes, SIZE);
         self.script.target.set(content);
         Ok(())
     }
