@@ -6,12 +6,12 @@ use Rattle.base_fields.specs.declared.spans.TableKind.TheVariants as table
 use Rattle.conf_keys.specs.declared.conf.Conf.{Conf}
 use Rattle.conf_keys.specs.declared.conf.FlashSection.{FlashSection}
 use Rattle.conf_keys.specs.declared.conf.HdKeys.{HdKeys}
-use Rattle.conf_keys.specs.declared.conf.Hole.{Hole}
+use Rattle.conf_values.specs.declared.values.Hole.{Hole}
 use Rattle.conf_keys.specs.declared.conf.ImageSection.{ImageSection}
 use Rattle.conf_keys.specs.declared.conf.Kind.TheVariants.{Sparse}
 use Rattle.conf_keys.specs.declared.conf.PartitionSection.{PartitionSection}
 use Rattle.conf_keys.specs.declared.conf.SparseKeys.{SparseKeys}
-use Rattle.conf_keys.specs.Values.{is_partition_name}
+use Rattle.conf_values.specs.Values.{is_partition_name}
 
 -- at most so many bytes as a size of a text may have, and at least the given
 abbrev pub IsSizeFrom : ℕ → ℕ → Type 0

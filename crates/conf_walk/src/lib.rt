@@ -11,6 +11,3 @@ mod walking;
 pub use conf_words::Vars;
 pub use fault::WalkFault;
 pub use walking::{Texts, read_texts};
-
-#[cfg(test)]
-mod tests;
