@@ -7,9 +7,12 @@ use Rattle.conf_keys.specs.declared.conf.HdKeys.{HdKeys}
 use Rattle.conf_items.specs.declared.items.Setting.{Setting}
 use Rattle.conf_keys.specs.Sections.{goes_with_wide, hd_values, number_at, sector_size_of, size_at, table_at}
 use Rattle.conf_keys.specs.Settings.{last_text}
-use Rattle.conf_values.specs.Values.{is_between, is_sector, number_between, number_of, passing, sector_of, size_from, size_of, size_with, bytes_of, unit_of}
-use Rattle.conf_values.proofs.Sizes.{both, passing_gives, size_small, then_gives}
-use Rattle.conf_keys.specs.Within.{IsBetween, IsHdWithin, IsSectorSize, IsSizeFrom}
+use Rattle.conf_values.specs.Values.{is_sector, number_between, number_of, sector_of, size_from, size_of}
+use Rattle.base_fields.proofs.Between.{between_gives}
+use Rattle.base_fields.specs.Numbers.{IsBetween, is_between}
+use Rattle.base_fields.specs.Results.{passing}
+use Rattle.conf_values.proofs.Sizes.{passing_gives, size_small, then_gives}
+use Rattle.conf_keys.specs.Within.{IsHdWithin, IsSectorSize, IsSizeFrom}
 
 from_within : (least : ℕ) (o : Option ℕ) → IfSome o (λ n. n ≤ 2 ^ 43) → IfSome (option_and_then (passing (nat_le least)) o) (IsSizeFrom least)
 from_within least None h = tt
@@ -21,9 +24,6 @@ from_within least (Some n) h = passing_here (nat_le least n) refl
 
 pub size_at_within : (least : ℕ) (key : List ℕ) (settings : List Setting) → IfSome (size_at least key settings) (IsSizeFrom least)
 size_at_within least key settings = then_gives (size_from least) (IsSizeFrom least) (λ text. from_within least (size_of text) (size_small text)) (last_text key settings)
-
-pub between_gives : (least most n : ℕ) → is_between least most n ≡ true → IsBetween least most n
-between_gives least most n e = let p = both (nat_le least n) (nat_le n most) e in (leb-true least n p.0, leb-true n most p.1)
 
 pub number_at_within : (least most : ℕ) (key : List ℕ) (settings : List Setting) → IfSome (number_at least most key settings) (IsBetween least most)
 number_at_within least most key settings =

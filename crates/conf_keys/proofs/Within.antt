@@ -18,11 +18,14 @@ use Rattle.conf_keys.specs.Partitions.{name_unfit, partition_head_fault, partiti
 use Rattle.conf_keys.specs.Sections.{block_size_at, flash_head_fault, flash_values, is_lacking, is_product_past, is_too_large, lacks_key, name_lacks, named_fault, numpebs_at, pebsize_at, section_fault, sparse_head_fault, sparse_values, top_section_fault, unnamed_fault, word_text}
 use Rattle.conf_keys.specs.Items.{inner_keys, top_keys}
 use Rattle.conf_keys.specs.Settings.{last_text}
-use Rattle.conf_values.specs.Values.{is_between, is_partition_name, passing, power_between, size_from, size_of, number_between}
-use Rattle.conf_keys.specs.Within.{IsBetween, IsFlashWithin, IsPartitionWithin, IsSizeFrom, IsSparseWithin}
+use Rattle.conf_values.specs.Values.{is_partition_name, power_between, size_from, size_of, number_between}
+use Rattle.conf_keys.specs.Within.{IsFlashWithin, IsPartitionWithin, IsSizeFrom, IsSparseWithin}
 use Rattle.conf_keys.proofs.Holes.{few_holes, holes_within}
-use Rattle.conf_values.proofs.Sizes.{both, passing_gives, then_gives}
-use Rattle.conf_keys.proofs.Limits.{between_gives, number_at_within, or_within, size_at_within}
+use Rattle.base_fields.proofs.Between.{power_between_gives}
+use Rattle.base_fields.specs.Numbers.{IsBetween, IsPowerBetween, is_power_between}
+use Rattle.base_fields.specs.Results.{passing}
+use Rattle.conf_values.proofs.Sizes.{passing_gives, then_gives}
+use Rattle.conf_keys.proofs.Limits.{number_at_within, or_within, size_at_within}
 use Rattle.conf_keys.proofs.Settled.{IsFitting, faultless, keys_pass, last_fits, top_faultless, top_keys_pass}
 
 -- what a section's values have, its answer has
@@ -88,27 +91,23 @@ flash_within head items found is e =
 
 -- ---- android-sparse
 
-abbrev IsBlock : ℕ → Type 0
-IsBlock n = IsTrue (is_power_of_two n) × IsBetween 4096 1048576 n
-
-block_within : (settings : List Setting) → IfSome (block_size_at settings) IsBlock
+block_within : (settings : List Setting) → IfSome (block_size_at settings) (IsPowerBetween 4096 1048576)
 block_within settings =
-    then_gives (power_between 4096 1048576) IsBlock
-    (λ text. then_gives (passing (λ n. is_power_of_two n && is_between 4096 1048576 n)) IsBlock
-    (passing_gives (λ n. is_power_of_two n && is_between 4096 1048576 n) IsBlock
-    (λ n e. let p = both (is_power_of_two n) (is_between 4096 1048576 n) e in (p.0, between_gives 4096 1048576 n p.1)))
+    then_gives (power_between 4096 1048576) (IsPowerBetween 4096 1048576)
+    (λ text. then_gives (passing (is_power_between 4096 1048576)) (IsPowerBetween 4096 1048576)
+    (passing_gives (is_power_between 4096 1048576) (IsPowerBetween 4096 1048576) (power_between_gives 4096 1048576))
     (size_of text))
     (last_text (codes "block-size") settings)
 
 -- what an image without the section has
-usual_block : IsBlock 4096
+usual_block : IsPowerBetween 4096 1048576 4096
 unfolding ones
-usual_block = (refl, (omega arith, omega arith))
+usual_block = record { power = refl; not_below = omega arith; not_above = omega arith }
 
 pub sparse_within : (settings : List Setting) → IsSparseWithin (sparse_values settings)
 sparse_within settings =
-    let block = or_within IsBlock (block_size_at settings) 4096 usual_block (block_within settings) in
-    record { power = block.0; block_size = block.1 }
+    let block = or_within (IsPowerBetween 4096 1048576) (block_size_at settings) 4096 usual_block (block_within settings) in
+    record { power = block.power; block_size = (block.not_below, block.not_above) }
 
 some_text : (found : Option (List ℕ)) → IsFitting shape.Text found → IsSome found
 some_text None h = absurd h

@@ -3,7 +3,7 @@ use Rattle.std.proofs.Common.{◌≡◌, ℕ, Bool, cond, true, false, List, Opt
 use Rattle.std.specs.Prelude.{IsSome, IsSomeAnd, MatchOption, is_none, is_some, option_and_then, unwrap_or}
 use Rattle.std.specs.List.{filter_map}
 use Rattle.conf_items.specs.declared.items.Setting.{Setting}
-use Rattle.conf_values.specs.Values.{passing}
+use Rattle.base_fields.specs.Results.{passing}
 use Rattle.conf_keys.specs.declared.checking.SectionFault.{SectionFault}
 use Rattle.conf_keys.specs.Sections.{answer, is_lacking}
 use Rattle.conf_keys.specs.Settings.{last_of, last_text, text_of}

@@ -1,5 +1,5 @@
 -- The keys of a section that is read: each has the value that its last text stands for, or the default.
-use Rattle.std.specs.Prelude.{◌≡◌, ℕ, ◌*◌, true, false, List, Some, None, Ok, codes}
+use Rattle.std.specs.Prelude.{◌≡◌, ℕ, ◌*◌, true, false, List, Option, Some, Ok, codes}
 use Rattle.uuid.specs.Text.{parsed}
 use Rattle.base_fields.specs.declared.spans.TableKind.TheVariants as table
 use Rattle.conf_items.specs.declared.items.Head.{Head}

@@ -9,7 +9,7 @@ use Rattle.conf_keys.specs.declared.checking.SectionFault.TheVariants.{UnknownKe
 use Rattle.conf_keys.specs.declared.conf.Conf.{Conf}
 use Rattle.conf_keys.specs.declared.conf.ConfigKeys.{ConfigKeys}
 use Rattle.conf_keys.specs.Sections.{config_of, flash_of}
-use Rattle.conf_walk.specs.Walk.{◌>>=◌}
+use Rattle.base_fields.specs.Results.{◌>>=◌}
 use Rattle.conf_sections.specs.Image.{image_of}
 
 -- of several values the last one counts

@@ -17,7 +17,7 @@ use Rattle.conf_keys.specs.Checking.{setting_fault}
 use Rattle.conf_keys.specs.Items.{top_keys}
 use Rattle.conf_keys.specs.Partitions.{partition_of}
 use Rattle.conf_keys.specs.Sections.{answer, hd_of, hd_values, image_values, name_text, named_fault, plain_of, plain_values, section_fault, sparse_of, sparse_values, unnamed_fault}
-use Rattle.conf_walk.specs.Walk.{◌>>=◌}
+use Rattle.base_fields.specs.Results.{◌>>=◌}
 use Rattle.conf_sections.specs.declared.image.Origin.{Origin}
 use Rattle.conf_sections.specs.declared.image.Origin.TheVariants.{Made, Ready}
 

@@ -7,7 +7,8 @@ use Rattle.conf_items.specs.Outline.{closed, opened, with_setting}
 use Rattle.conf_items.specs.declared.grammar.Lexeme.{Lexeme}
 use Rattle.conf_items.specs.declared.outline.Outline.{Outline}
 use Rattle.conf_grammar.specs.Trees.{Items, NoItem, IncludeThen, OptionThen, SectionThen}
-use Rattle.conf_walk.specs.Walk.{◌>>=◌, spelling_of, with_value}
+use Rattle.base_fields.specs.Results.{◌>>=◌}
+use Rattle.conf_walk.specs.Walk.{spelling_of, with_value}
 use Rattle.conf_walk.specs.declared.fault.WalkFault.{WalkFault}
 use Rattle.conf_walk.specs.declared.texts.Reading.{Reading}
 use Rattle.conf_walk.specs.declared.texts.Text.{Text}

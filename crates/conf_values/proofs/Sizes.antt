@@ -1,14 +1,8 @@
 -- What a value that is read has passed; a size of a text is at most 2^43.
 use Rattle.std.proofs.Common.{◌≡◌, ℕ, ◌-◌, ◌*◌, ◌^◌, ◌≤◌, ◌&&◌, Bool, cond, true, false, List, length, take, Option, Some, None, refl, leb-true}
 use Rattle.std.specs.Prelude.{IfSome, slice_index, nat_le, option_and_then}
-use Rattle.conf_values.specs.Values.{number_of, passing, size_of, size_with, bytes_of, unit_of}
-
-pub both : (a b : Bool) → (a && b) ≡ true → (a ≡ true) × (b ≡ true)
-both true b e = (refl, e)
-both false b e = absurd (bad e)
-  where
-    bad : false ≡ true → ⊥
-    bad e = cc
+use Rattle.base_fields.specs.Results.{passing}
+use Rattle.conf_values.specs.Values.{number_of, size_of, size_with, bytes_of, unit_of}
 
 -- what passes has passed the test
 pub passing_gives : (test : ℕ → Bool) (P : ℕ → Type 0) → ((n : ℕ) → test n ≡ true → P n) → (n : ℕ) → IfSome (passing test n) P

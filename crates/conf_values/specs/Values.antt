@@ -2,25 +2,15 @@
 use Rattle.std.specs.Prelude.{ℕ, ◌+◌, ◌-◌, ◌*◌, ◌^◌, ◌==◌, Bool, true, false, not, ◌&&◌, ◌||◌, nat_eq, nat_le, nat_lt, List, [], ◌∷◌, length, take, drop, map, reverse, Option, Some, None, option_and_then, codes, slice_index, if◌then◌else◌}
 use Rattle.std.specs.List.{list_all, prefix_len, slice_range, starts_with}
 use Rattle.std.specs.Char.{is_ascii_digit, is_ascii_hexdigit, to_ascii_lowercase}
-use Rattle.std.specs.Int.{is_power_of_two}
 use Rattle.std.specs.Str.{bytes_eq}
 use Rattle.std.specs.Str.Parse.{digits_value}
 use Rattle.uuid.specs.Text.{parsed}
+use Rattle.base_fields.specs.Numbers.{is_between, is_power_between}
+use Rattle.base_fields.specs.Results.{passing}
 use Rattle.base_fields.specs.declared.spans.TableKind.{TableKind}
 use Rattle.base_fields.specs.declared.spans.TableKind.TheVariants as table
 use Rattle.conf_lexer.specs.Text.{is_space}
 use Rattle.conf_values.specs.declared.values.Hole.{Hole}
-
--- what is found, where it passes
-abbrev pub provided : {A : Type 0} → Bool → A → Option A
-provided passes found = if passes then Some found else None
-
--- a number that has to pass a test
-abbrev pub passing : (ℕ → Bool) → ℕ → Option ℕ
-passing test n = provided (test n) n
-
-abbrev pub is_between : ℕ → ℕ → ℕ → Bool
-is_between least most n = nat_le least n && nat_le n most
 
 -- ---- numbers and sizes
 
@@ -78,7 +68,7 @@ size_from least text = option_and_then (passing (nat_le least)) (size_of text)
 
 -- a size that is a power of two
 abbrev pub power_between : ℕ → ℕ → List ℕ → Option ℕ
-power_between least most text = option_and_then (passing (λ n. is_power_of_two n && is_between least most n)) (size_of text)
+power_between least most text = option_and_then (passing (is_power_between least most)) (size_of text)
 
 -- 512, and 4096 where that is allowed
 abbrev pub is_sector : Bool → ℕ → Bool

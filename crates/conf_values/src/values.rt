@@ -5,7 +5,8 @@ ghost use Rattle.std.specs.Char.{digit_value, is_ascii_digit, is_ascii_hexdigit}
 ghost use Rattle.std.specs.Char.{to_ascii_lowercase};
 ghost use Rattle.std.specs.List.{list_all, prefix_len};
 ghost use Rattle.conf_lexer.specs.Text.{is_space};
-ghost use Rattle.conf_values.specs.Values.{bytes_of, decimal_of, hexadecimal_of, hole_of, is_between};
+ghost use Rattle.base_fields.specs.Numbers.{is_between};
+ghost use Rattle.conf_values.specs.Values.{bytes_of, decimal_of, hexadecimal_of, hole_of};
 ghost use Rattle.conf_values.specs.Values.{is_enclosed, is_decimal, is_hexadecimal};
 ghost use Rattle.conf_values.specs.Values.{is_partition_name, is_word, front_trimmed};
 ghost use Rattle.conf_values.specs.Values.{end_trimmed, has_needless_zero, number_between, number_of};

@@ -3,7 +3,7 @@ use Rattle.std.proofs.Common.{◌≡◌, Result, ap, subst, sym}
 use Rattle.outside.specs.Counts.{Counts}
 use Rattle.conf_walk.specs.Answers.{HasCause, Refuses}
 use Rattle.conf_walk.specs.Stack.{IsNoFileFault}
-use Rattle.conf_walk.specs.Walk.{◌>>=◌}
+use Rattle.base_fields.specs.Results.{◌>>=◌}
 use Rattle.conf_walk.specs.declared.fault.WalkFault.{WalkFault}
 use Rattle.conf_walk.specs.declared.fault.WalkFault.TheVariants.{BadText, Unset, DeepInclude, TooLong, Missing, SourceShort, FileFault, NoMemory}
 

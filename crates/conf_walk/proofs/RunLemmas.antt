@@ -5,7 +5,8 @@ use Rattle.std.proofs.lemmas.Option.{slice_get_cases}
 use Rattle.base_fields.specs.declared.names.Pair.{Pair}
 use Rattle.conf_items.specs.Grammar.{may_end}
 use Rattle.conf_walk.specs.Stack.{rest_walked}
-use Rattle.conf_walk.specs.Walk.{tokens_walked, when}
+use Rattle.base_fields.specs.Results.{when}
+use Rattle.conf_walk.specs.Walk.{tokens_walked}
 use Rattle.conf_walk.specs.declared.fault.WalkFault.{WalkFault}
 use Rattle.conf_walk.specs.declared.fault.WalkFault.TheVariants.{BadText}
 use Rattle.conf_walk.specs.declared.running.OpenText.{OpenText}

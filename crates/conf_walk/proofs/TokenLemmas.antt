@@ -8,7 +8,8 @@ use Rattle.conf_items.specs.declared.grammar.Parser.{Parser}
 use Rattle.conf_lexer.specs.declared.tokens.Token.{Token}
 use Rattle.conf_walk.specs.Answers.{Refuses}
 use Rattle.conf_walk.specs.Stack.{met, rest_walked}
-use Rattle.conf_walk.specs.Walk.{◌>>=◌, stepped, taken, tokens_walked}
+use Rattle.base_fields.specs.Results.{◌>>=◌}
+use Rattle.conf_walk.specs.Walk.{stepped, taken, tokens_walked}
 use Rattle.conf_walk.specs.declared.fault.WalkFault.{WalkFault}
 use Rattle.conf_walk.specs.declared.running.OpenText.{OpenText}
 use Rattle.conf_walk.specs.declared.steps.Taken.{Taken}

@@ -7,7 +7,8 @@ use Rattle.conf_items.specs.Outline.{deeper_of}
 use Rattle.conf_lexer.specs.Standing.{StandsIn}
 use Rattle.outside.specs.Files.{Tree, IsThere, bytes_of}
 use Rattle.conf_walk.specs.Answers.{Refuses}
-use Rattle.conf_walk.specs.Walk.{◌>>=◌, most_bytes, nestings, or_else, text_walked, tokens_walked}
+use Rattle.base_fields.specs.Results.{◌>>=◌, or_else}
+use Rattle.conf_walk.specs.Walk.{most_bytes, nestings, text_walked, tokens_walked}
 use Rattle.conf_walk.specs.declared.fault.WalkFault.{WalkFault}
 use Rattle.conf_walk.specs.declared.fault.WalkFault.TheVariants.{Missing, SourceShort, FileFault}
 use Rattle.conf_walk.specs.declared.steps.Taken.{Taken}

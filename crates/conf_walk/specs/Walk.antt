@@ -1,6 +1,7 @@
 -- What the texts of a configuration say, and the first thing that is met in them: a function of a name, a nesting and what was read before.
 use Rattle.std.specs.Prelude.{ℕ, zero, suc, ◌+◌, ◌-◌, ◌^◌, min, nat_le, Bool, List, [], ◌∷◌, ◌++◌, length, take, drop, codes, Option, Some, None, Result, Ok, Err, if◌then◌else◌}
 use Rattle.std.specs.Str.{bytes_eq}
+pub use Rattle.base_fields.specs.Results.{◌>>=◌, or_else, refused_by, when}
 use Rattle.base_fields.specs.declared.names.Pair.{Pair}
 use Rattle.outside.specs.Files.{Tree}
 use Rattle.conf_lexer.specs.Text.{tokens_of}
@@ -25,25 +26,6 @@ use Rattle.conf_walk.specs.declared.fault.WalkFault.TheVariants.{BadText, Unset,
 use Rattle.conf_walk.specs.declared.texts.Reading.{Reading}
 use Rattle.conf_walk.specs.declared.texts.Text.{Text}
 use Rattle.conf_walk.specs.declared.walking.Texts.{Texts}
-
-infixl 10 ◌>>=◌
-abbrev pub ◌>>=◌ : {A B E : Type 0} → Result A E → (A → Result B E) → Result B E
-(Ok x) >>= f = f x
-(Err e) >>= f = Err e
-
--- what is there, or the refusal
-abbrev pub or_else : {A E : Type 0} → Option A → E → Result A E
-or_else None refusal = Err refusal
-or_else (Some x) refusal = Ok x
-
--- what has passed, or the refusal
-abbrev pub when : {A E : Type 0} → Bool → A → E → Result A E
-when passes x refusal = if passes then Ok x else Err refusal
-
--- the same with another refusal
-abbrev pub refused_by : {A D E : Type 0} → (D → E) → Result A D → Result A E
-refused_by f (Ok x) = Ok x
-refused_by f (Err e) = Err (f e)
 
 -- ---- one token
 

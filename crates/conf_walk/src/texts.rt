@@ -6,7 +6,8 @@ ghost use Rattle.outside.specs.Counts.{NoneFell};
 ghost use Rattle.outside.specs.Files.{IsThere, bytes_of};
 ghost use Rattle.conf_walk.specs.Answers.{Answers, HasCause, LacksBelow};
 ghost use Rattle.conf_walk.specs.Stack.{HasLength, IsNoFileFault};
-ghost use Rattle.conf_walk.specs.Walk.{in_limit, most_bytes, nothing_read, or_else, refused_by, text_read, with_text};
+ghost use Rattle.base_fields.specs.Results.{or_else, refused_by};
+ghost use Rattle.conf_walk.specs.Walk.{in_limit, most_bytes, nothing_read, text_read, with_text};
 
 use crate::WalkFault;
 use base_fields::{Bytes, List, Name, NoMemory};
