@@ -15,7 +15,7 @@ use Rattle.conf_items.specs.declared.outline.TopItem.TheVariants as top
 use Rattle.conf_items.specs.declared.outline.TopSection.{TopSection}
 use Rattle.conf_grammar.specs.Trees.{Items, NoItem, IncludeThen, OptionThen, SectionThen}
 use Rattle.base_fields.specs.Results.{◌>>=◌}
-use Rattle.conf_walk.specs.declared.texts.Reading.{Reading}
+use Rattle.conf_texts.specs.declared.texts.Reading.{Reading}
 use Rattle.conf_trees.specs.Said.{HasNoInclude, inner_items, items_of, section_items}
 use Rattle.conf_trees.specs.Walked.{Walk, tree_walked, with_outline}
 use Rattle.conf_trees.specs.Laws.{AddsItems}

@@ -5,8 +5,8 @@ use Rattle.conf_items.specs.Outline.{closed, opened, with_setting}
 use Rattle.conf_items.specs.declared.outline.Outline.{Outline}
 use Rattle.conf_grammar.specs.Trees.{Items, NoItem, IncludeThen, OptionThen, SectionThen}
 use Rattle.base_fields.specs.Results.{◌>>=◌}
-use Rattle.conf_walk.specs.declared.fault.WalkFault.{WalkFault}
-use Rattle.conf_walk.specs.declared.texts.Reading.{Reading}
+use Rattle.conf_texts.specs.declared.fault.WalkFault.{WalkFault}
+use Rattle.conf_texts.specs.declared.texts.Reading.{Reading}
 use Rattle.conf_trees.specs.Said.{HasNoInclude}
 use Rattle.conf_trees.specs.Spliced.{Spliced, joined, size_of}
 use Rattle.conf_trees.specs.Walked.{Walk, tree_walked, with_outline}

@@ -13,11 +13,12 @@ use Rattle.conf_grammar.proofs.TreesFound.{reads_tree}
 use Rattle.conf_grammar.specs.Laws.{Ran, behind_move, kept, run}
 use Rattle.base_fields.proofs.Binds.{bind_ok, or_else_ok, refused_ok, when_ok}
 use Rattle.base_fields.specs.Results.{◌>>=◌, or_else, refused_by, when}
-use Rattle.conf_walk.specs.Walk.{spelling_of, stepped, taken, tokens_walked, with_value}
-use Rattle.conf_walk.specs.declared.fault.WalkFault.{WalkFault}
-use Rattle.conf_walk.specs.declared.fault.WalkFault.TheVariants.{BadText, Unset}
-use Rattle.conf_walk.specs.declared.texts.Reading.{Reading}
-use Rattle.conf_walk.specs.declared.texts.Text.{Text}
+use Rattle.conf_texts.specs.Steps.{spelling_of, stepped, taken, with_value}
+use Rattle.conf_walk.specs.Walk.{tokens_walked}
+use Rattle.conf_texts.specs.declared.fault.WalkFault.{WalkFault}
+use Rattle.conf_texts.specs.declared.fault.WalkFault.TheVariants.{BadText, Unset}
+use Rattle.conf_texts.specs.declared.texts.Reading.{Reading}
+use Rattle.conf_texts.specs.declared.texts.Text.{Text}
 use Rattle.conf_trees.specs.Walked.{HasLexeme, LexemesOf, Walk}
 use Rattle.conf_trees.specs.Laws.{HasTree}
 

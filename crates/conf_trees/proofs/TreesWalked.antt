@@ -14,10 +14,11 @@ use Rattle.conf_grammar.specs.Trees.{Items, NoItem, IncludeThen, OptionThen, Sec
 use Rattle.conf_grammar.specs.Laws.{Ran, behind_move, kept, outputs_of, run}
 use Rattle.base_fields.proofs.Binds.{bind-assoc, bind-same}
 use Rattle.base_fields.specs.Results.{◌>>=◌}
-use Rattle.conf_walk.specs.Walk.{taken, tokens_walked}
-use Rattle.conf_walk.specs.declared.fault.WalkFault.{WalkFault}
-use Rattle.conf_walk.specs.declared.texts.Reading.{Reading}
-use Rattle.conf_walk.specs.declared.texts.Text.{Text}
+use Rattle.conf_texts.specs.Steps.{taken}
+use Rattle.conf_walk.specs.Walk.{tokens_walked}
+use Rattle.conf_texts.specs.declared.fault.WalkFault.{WalkFault}
+use Rattle.conf_texts.specs.declared.texts.Reading.{Reading}
+use Rattle.conf_texts.specs.declared.texts.Text.{Text}
 use Rattle.conf_trees.specs.Walked.{LexemesOf, Walk, tree_walked, with_outline}
 use Rattle.conf_trees.specs.Laws.{WalksTree}
 use Rattle.conf_trees.proofs.Steps.{leads}

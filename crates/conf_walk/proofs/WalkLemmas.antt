@@ -3,16 +3,17 @@ use Rattle.std.proofs.Common.{◌≡◌, ℕ, ◌+◌, ◌-◌, ◌<◌, ◌≤�
 use Rattle.base_fields.specs.declared.names.Pair.{Pair}
 use Rattle.outside.specs.Files.{Tree}
 use Rattle.conf_items.specs.Grammar.{start}
-use Rattle.conf_walk.specs.Answers.{Refuses}
+use Rattle.conf_texts.specs.Answers.{Refuses}
 use Rattle.conf_walk.specs.Stack.{begun, rest_walked, resumed, stack_walked, then_walked}
 use Rattle.base_fields.proofs.Binds.{bind-assoc, bind-ok, bind-same}
 use Rattle.base_fields.specs.Results.{◌>>=◌}
-use Rattle.conf_walk.specs.Walk.{nestings, nothing_read, text_read, text_walked, texts_in, texts_of, tokens_walked, with_text}
-use Rattle.conf_walk.specs.declared.fault.WalkFault.{WalkFault}
-use Rattle.conf_walk.specs.declared.fault.WalkFault.TheVariants.{DeepInclude}
+use Rattle.conf_texts.specs.Texts.{nothing_read, text_read, with_text}
+use Rattle.conf_walk.specs.Walk.{nestings, text_walked, texts_in, texts_of, tokens_walked}
+use Rattle.conf_texts.specs.declared.fault.WalkFault.{WalkFault}
+use Rattle.conf_texts.specs.declared.fault.WalkFault.TheVariants.{DeepInclude}
 use Rattle.conf_walk.specs.declared.running.OpenText.{OpenText}
-use Rattle.conf_walk.specs.declared.texts.Reading.{Reading}
-use Rattle.conf_walk.specs.declared.texts.Text.{Text}
+use Rattle.conf_texts.specs.declared.texts.Reading.{Reading}
+use Rattle.conf_texts.specs.declared.texts.Text.{Text}
 use Rattle.conf_walk.proofs.Refusals.{refuses-along, refuses-bind}
 
 -- ---- the walk of a name

@@ -4,10 +4,10 @@ ghost use Rattle.conf_lexer.specs.Standing.{StandsIn};
 ghost use Rattle.conf_lexer.specs.Text.{tokens_of};
 ghost use Rattle.outside.specs.Counts.{NoneFell};
 ghost use Rattle.outside.specs.Files.{IsThere, bytes_of};
-ghost use Rattle.conf_walk.specs.Answers.{Answers, HasCause, LacksBelow};
-ghost use Rattle.conf_walk.specs.Stack.{HasLength, IsNoFileFault};
 ghost use Rattle.base_fields.specs.Results.{or_else, refused_by};
-ghost use Rattle.conf_walk.specs.Walk.{in_limit, most_bytes, nothing_read, text_read, with_text};
+ghost use Rattle.conf_texts.specs.Answers.{Answers, HasCause, IsNoFileFault, LacksBelow};
+ghost use Rattle.conf_texts.specs.Texts.{HasLength, in_limit, most_bytes, nothing_read};
+ghost use Rattle.conf_texts.specs.Texts.{text_read, with_text};
 
 use crate::WalkFault;
 use base_fields::{Bytes, List, Name, NoMemory};

@@ -1,8 +1,8 @@
 -- What an answer of the walk says of the texts, and of the counts of the files.
 use Rattle.std.specs.Prelude.{◌≡◌, ℕ, ◌<◌, Result, Ok, Err}
 use Rattle.outside.specs.Counts.{Counts, Rose}
-use Rattle.conf_walk.specs.declared.fault.WalkFault.{WalkFault}
-use Rattle.conf_walk.specs.declared.fault.WalkFault.TheVariants.{Missing, SourceShort, FileFault, NoMemory}
+use Rattle.conf_texts.specs.declared.fault.WalkFault.{WalkFault}
+use Rattle.conf_texts.specs.declared.fault.WalkFault.TheVariants.{Missing, SourceShort, FileFault, NoMemory}
 
 -- a refusal is the wanted one, or a call failed or memory was refused
 abbrev pub Refuses : {A : Type 0} → Result A WalkFault → WalkFault → Type 0
@@ -25,3 +25,10 @@ HasCause before now other = Unit {0}
 abbrev pub LacksBelow : ℕ → WalkFault → Type 0
 LacksBelow count (SourceShort name at) = at < count
 LacksBelow count other = Unit {0}
+
+-- a refusal that has no cause in the files
+abbrev pub IsNoFileFault : WalkFault → Type 0
+IsNoFileFault FileFault = ⊥
+IsNoFileFault (Missing name) = ⊥
+IsNoFileFault (SourceShort name at) = ⊥
+IsNoFileFault other = Unit {0}

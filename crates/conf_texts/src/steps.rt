@@ -3,10 +3,10 @@ ghost use Rattle.std.specs.Prelude.{◌≡◌, ℕ, ◌+◌, ◌-◌, ◌<◌, �
 ghost use Rattle.conf_items.specs.Outline.{deeper_of};
 ghost use Rattle.conf_lexer.specs.Standing.{StandsIn};
 ghost use Rattle.conf_words.specs.Values.{value_of};
-ghost use Rattle.conf_walk.specs.Answers.{Answers};
-ghost use Rattle.conf_walk.specs.Stack.{IsNoFileFault, met, reading_of};
 ghost use Rattle.base_fields.specs.Results.{refused_by};
-ghost use Rattle.conf_walk.specs.Walk.{shaped, spelling_of, stepped, taken, with_value};
+ghost use Rattle.conf_texts.specs.Answers.{Answers, IsNoFileFault};
+ghost use Rattle.conf_texts.specs.Steps.{met, reading_of, shaped, spelling_of, stepped, taken};
+ghost use Rattle.conf_texts.specs.Steps.{with_value};
 
 use crate::texts::{Reading, Text, bad_text};
 use crate::{Vars, WalkFault};

@@ -24,7 +24,7 @@ pub enum WalkFault {
 
 impl From<NoMemory> for WalkFault {
     ghost use Rattle.std.specs.Prelude.{◌≡◌};
-    ghost use Rattle.conf_walk.specs.declared.fault.WalkFault.TheVariants.{NoMemory};
+    ghost use Rattle.conf_texts.specs.declared.fault.WalkFault.TheVariants.{NoMemory};
 
     ghost from_gives = { λ _ e. e ≡ NoMemory };
 

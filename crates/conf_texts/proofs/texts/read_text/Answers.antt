@@ -1,7 +1,7 @@
 use Rattle.std.proofs.Common.{◌-◌}
 use Rattle.std.proofs.lemmas.Result.{err_from_is_err_and}
-use Rattle.conf_walk.specs.Walk.{most_bytes}
-use Rattle.conf_walk.proofs.texts.read_text.Goals as goal
+use Rattle.conf_texts.specs.Texts.{most_bytes}
+use Rattle.conf_texts.proofs.texts.read_text.Goals as goal
 
 pub returns-in_err-len-clause-lacks : goal.returns-in_err-len-clause-lacks
 returns-in_err-len-clause-lacks g c =
