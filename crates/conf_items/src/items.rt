@@ -31,11 +31,9 @@ pub enum Given {
     Set(Value),
     /// A value behind `+=`.
     Added(Value),
-    /// No value: the key is the word of a section.
-    Section,
 }
 
-/// An item of a section: a key and its value, or the word of a section inside.
+/// A key and what it is given.
 #[derive(Debug, Drop)]
 pub struct Setting {
     pub key: Word,

@@ -8,7 +8,4 @@ mod outline;
 
 pub use grammar::{Lexeme, Mark, Move, Next, OpenList, Output, Parser};
 pub use items::{Given, Head, Place, Setting, Value, Word};
-pub use outline::{OpenSections, Outline, Subsection, TopItem, TopSection};
-
-#[cfg(test)]
-mod tests;
+pub use outline::{InnerItem, OpenSections, Outline, SectionItem, Subsection, TopItem, TopSection};

@@ -1,26 +1,38 @@
 //! The sections of a configuration, two deep: what stands deeper has no meaning, and is counted alone.
 ghost use Rattle.std.specs.Prelude.{◌≡◌, ◌+◌, ◌-◌, ◌<◌, ◌≤◌, ◌^◌, [], IfOk};
-ghost use Rattle.conf_items.specs.Outline.{closed, deeper_of, marker, opened, with_setting};
+ghost use Rattle.conf_items.specs.Outline.{closed, deeper_of, opened, with_setting};
 
-use crate::{Given, Head, Setting, Word};
-use base_fields::{List, Name, NoMemory};
+use crate::{Head, Setting};
+use base_fields::{List, NoMemory};
 use std::alloc::Global;
 
-/// A section in a section at the top. A section inside is a setting without a value.
+/// An item of a section that stands in a section at the top.
+#[derive(Debug, Drop)]
+pub enum InnerItem {
+    Key(Setting),
+    /// A section, whose own items have no meaning and aren't kept.
+    Section(Head),
+}
+
+/// A section in a section at the top, with its items in order.
 #[derive(Debug, Drop)]
 pub struct Subsection {
     pub head: Head,
-    pub settings: List<Setting>,
+    pub items: List<InnerItem>,
 }
 
-/// A section at the top.
+/// An item of a section at the top.
+#[derive(Debug, Drop)]
+pub enum SectionItem {
+    Key(Setting),
+    Section(Subsection),
+}
+
+/// A section at the top, with its items in order.
 #[derive(Debug, Drop)]
 pub struct TopSection {
     pub head: Head,
-    /// Its items in order, a section inside as a setting without a value.
-    pub settings: List<Setting>,
-    /// The sections inside in order, one for each setting without a value.
-    pub sections: List<Subsection>,
+    pub items: List<SectionItem>,
 }
 
 /// An item at the top.
@@ -51,30 +63,6 @@ pub struct Outline {
     pub inside: OpenSections,
 }
 
-impl Word {
-    /// A copy. Takes memory.
-    pub fn copy(&self, alloc: Global) -> Result<Word, NoMemory>
-        ensures { IfOk result (λ word. word ≡ self.now) }
-    {
-        Ok(Word {
-            text: Name::of(alloc, self.text.text())?,
-            place: self.place,
-        })
-    }
-}
-
-impl Head {
-    // The setting that stands for a section in the list of items around it.
-    fn marker(&self, alloc: Global) -> Result<Setting, NoMemory>
-        ensures { IfOk result (λ setting. setting ≡ marker self.now) }
-    {
-        Ok(Setting {
-            key: self.word.copy(alloc)?,
-            given: Given::Section,
-        })
-    }
-}
-
 impl Outline {
     /// Nothing was read yet. Takes no memory.
     pub fn new(alloc: Global) -> Outline
@@ -98,7 +86,7 @@ impl Outline {
                 OpenSections::Nothing
             }
             OpenSections::Outer(mut outer) => {
-                outer.settings.push(setting)?;
+                outer.items.push(SectionItem::Key(setting))?;
                 OpenSections::Outer(outer)
             }
             OpenSections::Inner {
@@ -107,7 +95,7 @@ impl Outline {
                 deeper,
             } => {
                 if deeper == 0 {
-                    inner.settings.push(setting)?;
+                    inner.items.push(InnerItem::Key(setting))?;
                 }
                 OpenSections::Inner {
                     outer,
@@ -129,27 +117,23 @@ impl Outline {
         let inside = match inside {
             OpenSections::Nothing => OpenSections::Outer(TopSection {
                 head,
-                settings: List::new(alloc),
-                sections: List::new(alloc),
+                items: List::new(alloc),
             }),
-            OpenSections::Outer(mut outer) => {
-                outer.settings.push(head.marker(alloc)?)?;
-                OpenSections::Inner {
-                    outer,
-                    inner: Subsection {
-                        head,
-                        settings: List::new(alloc),
-                    },
-                    deeper: 0,
-                }
-            }
+            OpenSections::Outer(outer) => OpenSections::Inner {
+                outer,
+                inner: Subsection {
+                    head,
+                    items: List::new(alloc),
+                },
+                deeper: 0,
+            },
             OpenSections::Inner {
                 outer,
                 mut inner,
                 deeper,
             } => {
                 if deeper == 0 {
-                    inner.settings.push(head.marker(alloc)?)?;
+                    inner.items.push(InnerItem::Section(head))?;
                 }
                 OpenSections::Inner {
                     outer,
@@ -178,7 +162,7 @@ impl Outline {
                 inner,
                 deeper: 0,
             } => {
-                outer.sections.push(inner)?;
+                outer.items.push(SectionItem::Section(inner))?;
                 OpenSections::Outer(outer)
             }
             OpenSections::Inner {

@@ -1,11 +1,12 @@
 -- The first fault of a list, from where a loop stands in it.
-use Rattle.std.proofs.Common.{◌≡◌, ℕ, ◌+◌, ◌-◌, ◌^◌, ◌<◌, ◌≤◌, ◌&&◌, Bool, cond, true, false, List, [], ◌∷◌, ◌++◌, length, drop, take, get_or, Option, Some, None, refl, ◌∙◌, ap, add-one, arith, drop-cons, length-append, le-ltb, leb-true, leb-false, ltb-true}
+use Rattle.std.proofs.Common.{◌≡◌, ℕ, suc, ◌+◌, ◌-◌, ◌^◌, ◌<◌, ◌≤◌, ◌&&◌, Bool, cond, true, false, List, [], ◌∷◌, ◌++◌, length, drop, take, get_or, Option, Some, None, refl, ◌∙◌, ap, add-one, arith, drop-cons, length-append, le-ltb, leb-true, leb-false, ltb-true}
 use Rattle.std.specs.Prelude.{filter, fold, is_some, min, nat_le, nat_lt, option_to_list}
-use Rattle.std.proofs.lemmas.List.{take_more}
+use Rattle.std.proofs.lemmas.List.{append-nil, take_more}
+use Rattle.std.proofs.lemmas.List.Elements.{filter_map-append}
 use Rattle.std.proofs.lemmas.List.Sums.{fold_push}
 use Rattle.conf_keys.specs.declared.checking.SectionFault.{SectionFault}
 use Rattle.conf_keys.specs.declared.checking.SectionFault.TheVariants.{BadValue}
-use Rattle.conf_keys.specs.declared.conf.Hole.{Hole}
+use Rattle.conf_values.specs.declared.values.Hole.{Hole}
 use Rattle.conf_keys.specs.declared.settings.Section.{Section}
 use Rattle.conf_keys.specs.declared.settings.Shape.{Shape}
 use Rattle.conf_keys.specs.declared.settings.Shape.TheVariants as shape
@@ -13,13 +14,16 @@ use Rattle.conf_items.specs.declared.items.Given.{Given}
 use Rattle.conf_items.specs.declared.items.Given.TheVariants as given
 use Rattle.conf_items.specs.declared.items.Place.{Place}
 use Rattle.conf_items.specs.declared.items.Setting.{Setting}
+use Rattle.conf_items.specs.declared.outline.InnerItem.{InnerItem}
+use Rattle.conf_items.specs.declared.outline.InnerItem.TheVariants as inner
 use Rattle.conf_items.specs.declared.items.Value.{Value}
 use Rattle.conf_items.specs.declared.items.Value.TheVariants.{One, Many}
 use Rattle.conf_items.specs.declared.items.Word.{Word}
-use Rattle.conf_keys.specs.Checking.{fault_behind, given_fault, held, is_hole, keyed_fault, listed_fault, setting_fault, shaped_fault, word_fault, words_fault}
-use Rattle.conf_keys.specs.Holes.{holes_of, with_hole, with_setting}
+use Rattle.conf_keys.specs.Checking.{fault_after, fault_behind, held, is_hole, item_fault, keyed_fault, listed_fault, shaped_fault, word_fault, words_fault}
+use Rattle.conf_keys.specs.Holes.{holes_of, with_hole, with_item, with_setting}
+use Rattle.conf_keys.specs.Items.{inner_key, inner_keys}
 use Rattle.conf_keys.specs.Settings.{shape_of}
-use Rattle.conf_keys.specs.Values.{hole_of}
+use Rattle.conf_values.specs.Values.{hole_of}
 
 -- ---- words
 
@@ -68,40 +72,53 @@ listed_held n (Many place words) = words_held n words
 shaped_held : (n : ℕ) (form : Shape) (what : Given) → shaped_fault (min n (2 ^ 64 - 1)) form what ≡ shaped_fault n form what
 shaped_held n shape.Holes (given.Set value) = refl
 shaped_held n shape.Holes (given.Added value) = listed_held n value
-shaped_held n shape.Holes given.Section = refl
 shaped_held n form what = refl
 
 keyed_held : (n : ℕ) (key : Place) (found : Option Shape) (what : Given) → keyed_fault (min n (2 ^ 64 - 1)) key found what ≡ keyed_fault n key found what
 keyed_held n key None what = refl
 keyed_held n key (Some form) what = shaped_held n form what
 
-given_held : (whose : Section) (n : ℕ) (key : Word) (what : Given) → given_fault whose (min n (2 ^ 64 - 1)) key what ≡ given_fault whose n key what
-given_held whose n key (given.Set value) = keyed_held n key.place (shape_of whose key.text) (given.Set value)
-given_held whose n key (given.Added value) = keyed_held n key.place (shape_of whose key.text) (given.Added value)
-given_held whose n key given.Section = refl
+item_held : (whose : Section) (n : ℕ) (item : InnerItem) → item_fault whose (min n (2 ^ 64 - 1)) item ≡ item_fault whose n item
+item_held whose n (inner.Key setting) = keyed_held n setting.key.place (shape_of whose setting.key.text) setting.given
+item_held whose n (inner.Section head) = refl
 
-judged : (whose : Section) (setting : Setting) (before : ℕ) (holes : List Hole) → before ≡ held holes → setting_fault whose before setting ≡ setting_fault whose (length holes) setting
-judged whose setting before holes is = rw is (given_held whose (length holes) setting.key setting.given)
+judged : (whose : Section) (item : InnerItem) (before : ℕ) (front : List InnerItem) → before ≡ held (holes_of (inner_keys front)) → item_fault whose before item ≡ fault_after whose front item
+judged whose item before front is = rw is (item_held whose (length (holes_of (inner_keys front))) item)
 
--- ---- settings
+-- ---- items
 
-pub setting_fails : (whose : Section) (settings : List Setting) (i before : ℕ) (setting : Setting) (fault : SectionFault) → i < length settings
-    → setting ≡ get_or settings i setting → before ≡ held (holes_of (take i settings)) → Some fault ≡ setting_fault whose before setting
-    → Some fault ≡ fault_behind whose (take i settings) (drop i settings)
-setting_fails whose settings i before setting fault within is count fails =
-    let same : Some fault ≡ setting_fault whose (length (holes_of (take i settings))) setting = fails ∙ judged whose setting before (holes_of (take i settings)) count in
-    rw (drop-cons settings i setting, ← is, ← same) refl
+pub item_fails : (whose : Section) (items : List InnerItem) (i before : ℕ) (item : InnerItem) (fault : SectionFault) → i < length items
+    → item ≡ get_or items i item → before ≡ held (holes_of (inner_keys (take i items))) → Some fault ≡ item_fault whose before item
+    → Some fault ≡ fault_behind whose (take i items) (drop i items)
+item_fails whose items i before item fault within is count fails =
+    let same : Some fault ≡ fault_after whose (take i items) item = fails ∙ judged whose item before (take i items) count in
+    rw (drop-cons items i item, ← is, ← same) refl
 
-pub setting_passes : (whose : Section) (settings : List Setting) (i before : ℕ) (setting : Setting) → i < length settings
-    → setting ≡ get_or settings i setting → before ≡ held (holes_of (take i settings)) → None ≡ setting_fault whose before setting
-    → fault_behind whose (take i settings) (drop i settings) ≡ fault_behind whose (take (i + 1) settings) (drop (i + 1) settings)
-setting_passes whose settings i before setting within is count passes =
-    let same : None ≡ setting_fault whose (length (holes_of (take i settings))) setting = passes ∙ judged whose setting before (holes_of (take i settings)) count in
-    rw (take_more settings i setting within, add-one, drop-cons settings i setting, ← is, ← same) refl
+pub item_passes : (whose : Section) (items : List InnerItem) (i before : ℕ) (item : InnerItem) → i < length items
+    → item ≡ get_or items i item → before ≡ held (holes_of (inner_keys (take i items))) → None ≡ item_fault whose before item
+    → fault_behind whose (take i items) (drop i items) ≡ fault_behind whose (take (i + 1) items) (drop (i + 1) items)
+item_passes whose items i before item within is count passes =
+    let same : None ≡ fault_after whose (take i items) item = passes ∙ judged whose item before (take i items) count in
+    rw (take_more items i item within, add-one, drop-cons items i item, ← is, ← same) refl
 
-pub holes_more : (settings : List Setting) (i : ℕ) (setting : Setting) → i < length settings → setting ≡ get_or settings i setting
-    → holes_of (take (i + 1) settings) ≡ with_setting (holes_of (take i settings)) setting
-holes_more settings i setting within is = rw (take_more settings i setting within, ← is) (fold_push with_setting [] (take i settings) setting)
+pub holes_pushed : (front : List InnerItem) (item : InnerItem) → holes_of (inner_keys (front ++ item ∷ [])) ≡ with_item (holes_of (inner_keys front)) item
+holes_pushed front (inner.Key setting) =
+    ap holes_of (filter_map-append inner_key front (inner.Key setting ∷ [])) ∙ fold_push with_setting [] (inner_keys front) setting
+holes_pushed front (inner.Section head) =
+    ap holes_of (filter_map-append inner_key front (inner.Section head ∷ []) ∙ append-nil (inner_keys front))
+
+pub holes_more : (items : List InnerItem) (i : ℕ) (item : InnerItem) → i < length items → item ≡ get_or items i item
+    → holes_of (inner_keys (take (i + 1) items)) ≡ with_item (holes_of (inner_keys (take i items))) item
+holes_more items i item within is = rw (take_more items i item within, ← is) (holes_pushed (take i items) item)
+
+-- the holes that are left behind a loop
+pub holes_left : (items : List InnerItem) (i : ℕ) (item : InnerItem) (holes : List Hole) → i < length items → item ≡ get_or items i item
+    → fold with_setting holes (inner_keys (drop i items)) ≡ fold with_setting (with_item holes item) (inner_keys (drop (i + 1) items))
+holes_left items i item holes within is = rw (add-one, drop-cons items i item, ← is) (at item)
+  where
+    at : (item : InnerItem) → fold with_setting holes (inner_keys (item ∷ drop (suc i) items)) ≡ fold with_setting (with_item holes item) (inner_keys (drop (suc i) items))
+    at (inner.Key setting) = refl
+    at (inner.Section head) = refl
 
 -- ---- how many there are behind a setting
 

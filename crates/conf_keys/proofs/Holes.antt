@@ -1,24 +1,27 @@
 -- The holes of a partition without a fault: each within the limits, and as many as were counted.
-use Rattle.std.proofs.Common.{◌≡◌, ℕ, ◌+◌, ◌^◌, ◌<◌, ◌≤◌, ◌&&◌, ◌++◌, Bool, cond, true, false, List, [], ◌∷◌, length, take, drop, Option, Some, None, refl, ◌∙◌, sym, ap, subst, arith, length-append, ltb-true}
-use Rattle.std.proofs.lemmas.List.Sums.{fold_push}
+use Rattle.std.proofs.Common.{◌≡◌, ℕ, ◌+◌, ◌^◌, ◌<◌, ◌≤◌, ◌&&◌, ◌++◌, Bool, cond, true, false, List, [], ◌∷◌, length, take, drop, Option, Some, None, refl, ◌∙◌, sym, ap, subst, arith, length-append, ltb-true, append_assoc, append-nil}
 use Rattle.std.specs.Prelude.{All, IfSome, codes, fold, is_some, nat_lt, option_to_list}
 use Rattle.std.proofs.lemmas.List.Elements.{All-append, All-cons, All-nil}
 use Rattle.conf_items.specs.declared.items.Value.TheVariants.{One, Many}
 use Rattle.conf_items.specs.declared.items.Given.{Given}
 use Rattle.conf_items.specs.declared.items.Given.TheVariants as given
 use Rattle.conf_items.specs.declared.items.Setting.{Setting}
+use Rattle.conf_items.specs.declared.outline.InnerItem.{InnerItem}
+use Rattle.conf_items.specs.declared.outline.InnerItem.TheVariants as inner
 use Rattle.conf_items.specs.declared.items.Word.{Word}
 use Rattle.conf_keys.specs.declared.checking.SectionFault.{SectionFault}
 use Rattle.conf_keys.specs.declared.checking.SectionFault.TheVariants.{BadValue}
-use Rattle.conf_keys.specs.declared.conf.Hole.{Hole}
+use Rattle.conf_values.specs.declared.values.Hole.{Hole}
 use Rattle.conf_keys.specs.declared.settings.Section.TheVariants as section
 use Rattle.conf_keys.specs.declared.settings.Shape.TheVariants as shape
-use Rattle.conf_keys.specs.Checking.{fault_behind, first_fault, given_fault, keyed_fault, setting_fault, shaped_fault, word_fault, words_fault}
-use Rattle.conf_keys.specs.Holes.{given_holes, holes_of, with_hole, with_setting}
+use Rattle.conf_keys.specs.Checking.{fault_after, fault_behind, first_fault, item_fault, keyed_fault, setting_fault, shaped_fault, word_fault, words_fault}
+use Rattle.conf_keys.specs.Holes.{given_holes, holes_of, with_hole, with_item, with_setting}
+use Rattle.conf_keys.specs.Items.{inner_keys}
 use Rattle.conf_keys.specs.Settings.{has_key, partition_shape}
-use Rattle.conf_keys.specs.Values.{end_trimmed, front_trimmed, hole_between, hole_of, inside_of, is_enclosed, semicolon_of, sizes_of}
+use Rattle.conf_values.specs.Values.{end_trimmed, front_trimmed, hole_between, hole_of, inside_of, is_enclosed, semicolon_of, sizes_of}
 use Rattle.conf_keys.specs.Within.{IsHoleWithin}
-use Rattle.conf_keys.proofs.Limits.{size_small}
+use Rattle.conf_values.proofs.Sizes.{size_small}
+use Rattle.conf_keys.proofs.Failing.{holes_pushed}
 use Rattle.conf_keys.proofs.Settled.{key_is, neither}
 
 -- ---- each hole is within the limits
@@ -53,7 +56,6 @@ given_within holes (given.Set (Many place words)) h = words_within words [] (All
 given_within holes (given.Set (One word)) h = h
 given_within holes (given.Added (Many place words)) h = words_within words holes h
 given_within holes (given.Added (One word)) h = h
-given_within holes given.Section h = h
 
 setting_within : (holes : List Hole) (setting : Setting) → All IsHoleWithin holes → All IsHoleWithin (with_setting holes setting)
 setting_within holes setting h = at (has_key (codes "holes") setting)
@@ -92,27 +94,28 @@ few_given holes (given.Set (One word)) h e = absurd (cc)
 few_given holes (given.Set (Many place words)) h e = few_words words [] (omega arith) e
 few_given holes (given.Added (One word)) h e = absurd (cc)
 few_given holes (given.Added (Many place words)) h e = few_words words holes h e
-few_given holes given.Section h e = h
 
-holes_fault : (before : ℕ) (key : Word) (what : Given) → key.text ≡ codes "holes" → None ≡ given_fault section.Partition before key what → None ≡ shaped_fault before shape.Holes what
-holes_fault before key (given.Set value) is e = e ∙ ap (λ text. keyed_fault before key.place (partition_shape text) (given.Set value)) is
-holes_fault before key (given.Added value) is e = e ∙ ap (λ text. keyed_fault before key.place (partition_shape text) (given.Added value)) is
-holes_fault before key given.Section is e = absurd (cc)
+holes_fault : (before : ℕ) (setting : Setting) → setting.key.text ≡ codes "holes" → None ≡ setting_fault section.Partition before setting → None ≡ shaped_fault before shape.Holes setting.given
+holes_fault before setting is e = e ∙ ap (λ text. keyed_fault before setting.key.place (partition_shape text) setting.given) is
 
 few_setting : (holes : List Hole) (setting : Setting) → length holes ≤ 64 → None ≡ setting_fault section.Partition (length holes) setting → length (with_setting holes setting) ≤ 64
 few_setting holes setting h e = at (has_key (codes "holes") setting) refl
   where
     at : (b : Bool) → has_key (codes "holes") setting ≡ b → length (cond b (given_holes holes setting.given) holes) ≤ 64
-    at true has = few_given holes setting.given h (holes_fault (length holes) setting.key setting.given (key_is (codes "holes") setting has) e)
+    at true has = few_given holes setting.given h (holes_fault (length holes) setting (key_is (codes "holes") setting has) e)
     at false other = h
 
-few_settings : (front rest : List Setting) → length (holes_of front) ≤ 64 → None ≡ fault_behind section.Partition front rest → length (fold with_setting (holes_of front) rest) ≤ 64
-few_settings front [] h e = h
-few_settings front (setting ∷ rest) h e =
-    let both = neither (setting_fault section.Partition (length (holes_of front)) setting) (fault_behind section.Partition (front ++ setting ∷ []) rest) e in
-    let is : holes_of (front ++ setting ∷ []) ≡ with_setting (holes_of front) setting = fold_push with_setting [] front setting in
-    let few : length (holes_of (front ++ setting ∷ [])) ≤ 64 = subst (λ (holes : List Hole). length holes ≤ 64) (sym is) (few_setting (holes_of front) setting h both.0) in
-    subst (λ (holes : List Hole). length (fold with_setting holes rest) ≤ 64) is (few_settings (front ++ setting ∷ []) rest few both.1)
+few_item : (holes : List Hole) (item : InnerItem) → length holes ≤ 64 → None ≡ item_fault section.Partition (length holes) item → length (with_item holes item) ≤ 64
+few_item holes (inner.Key setting) h e = few_setting holes setting h e
+few_item holes (inner.Section head) h e = h
 
-pub few_holes : (settings : List Setting) → None ≡ first_fault section.Partition settings → length (holes_of settings) ≤ 64
-few_holes settings e = few_settings [] settings (omega arith) e
+few_items : (front rest : List InnerItem) → length (holes_of (inner_keys front)) ≤ 64 → None ≡ fault_behind section.Partition front rest → length (holes_of (inner_keys (front ++ rest))) ≤ 64
+few_items front [] h e = subst (λ (items : List InnerItem). length (holes_of (inner_keys items)) ≤ 64) (sym (append-nil front)) h
+few_items front (item ∷ rest) h e =
+    let both = neither (fault_after section.Partition front item) (fault_behind section.Partition (front ++ item ∷ []) rest) e in
+    let few : length (holes_of (inner_keys (front ++ item ∷ []))) ≤ 64 =
+    subst (λ (holes : List Hole). length holes ≤ 64) (sym (holes_pushed front item)) (few_item (holes_of (inner_keys front)) item h both.0) in
+    subst (λ (items : List InnerItem). length (holes_of (inner_keys items)) ≤ 64) (append_assoc front (item ∷ []) rest) (few_items (front ++ item ∷ []) rest few both.1)
+
+pub few_holes : (items : List InnerItem) → None ≡ first_fault section.Partition items → length (holes_of (inner_keys items)) ≤ 64
+few_holes items e = few_items [] items (omega arith) e

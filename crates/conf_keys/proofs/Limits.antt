@@ -7,37 +7,12 @@ use Rattle.conf_keys.specs.declared.conf.HdKeys.{HdKeys}
 use Rattle.conf_items.specs.declared.items.Setting.{Setting}
 use Rattle.conf_keys.specs.Sections.{goes_with_wide, hd_values, number_at, sector_size_of, size_at, table_at}
 use Rattle.conf_keys.specs.Settings.{last_text}
-use Rattle.conf_keys.specs.Values.{is_between, is_sector, number_between, number_of, passing, sector_of, size_from, size_of, size_with, bytes_of, unit_of}
-use Rattle.conf_keys.specs.Within.{IsBetween, IsHdWithin, IsSectorSize, IsSizeFrom}
-
-pub both : (a b : Bool) → (a && b) ≡ true → (a ≡ true) × (b ≡ true)
-both true b e = (refl, e)
-both false b e = absurd (bad e)
-  where
-    bad : false ≡ true → ⊥
-    bad e = cc
-
--- what passes has passed the test
-pub passing_gives : (test : ℕ → Bool) (P : ℕ → Type 0) → ((n : ℕ) → test n ≡ true → P n) → (n : ℕ) → IfSome (passing test n) P
-passing_gives test P gives n = at (test n) refl
-  where
-    at : (b : Bool) → test n ≡ b → IfSome (cond b (Some n) None) P
-    at true e = gives n e
-    at false e = tt
-
-pub then_gives : {A B : Type 0} (f : A → Option B) (P : B → Type 0) → ((a : A) → IfSome (f a) P) → (o : Option A) → IfSome (option_and_then f o) P
-then_gives f P gives None = tt
-then_gives f P gives (Some a) = gives a
-
-bytes_small : (unit count : ℕ) → IfSome (bytes_of unit count) (λ n. n ≤ 2 ^ 43)
-bytes_small unit count = passing_gives (λ n. nat_le n (2 ^ 43)) (λ n. n ≤ 2 ^ 43) (λ n e. leb-true n (2 ^ 43) e) (count * unit)
-
-size_with_small : (text : List ℕ) (unit : Option ℕ) → IfSome (size_with text unit) (λ n. n ≤ 2 ^ 43)
-size_with_small text None = then_gives (bytes_of 1) (λ n. n ≤ 2 ^ 43) (bytes_small 1) (number_of text)
-size_with_small text (Some unit) = then_gives (bytes_of unit) (λ n. n ≤ 2 ^ 43) (bytes_small unit) (number_of (take (length text - 1) text))
-
-pub size_small : (text : List ℕ) → IfSome (size_of text) (λ n. n ≤ 2 ^ 43)
-size_small text = size_with_small text (unit_of (slice_index text (length text - 1)))
+use Rattle.conf_values.specs.Values.{is_sector, number_between, number_of, sector_of, size_from, size_of}
+use Rattle.base_fields.proofs.Between.{between_gives}
+use Rattle.base_fields.specs.Numbers.{IsBetween, is_between}
+use Rattle.base_fields.specs.Results.{passing}
+use Rattle.conf_values.proofs.Sizes.{passing_gives, size_small, then_gives}
+use Rattle.conf_keys.specs.Within.{IsHdWithin, IsSectorSize, IsSizeFrom}
 
 from_within : (least : ℕ) (o : Option ℕ) → IfSome o (λ n. n ≤ 2 ^ 43) → IfSome (option_and_then (passing (nat_le least)) o) (IsSizeFrom least)
 from_within least None h = tt
@@ -49,9 +24,6 @@ from_within least (Some n) h = passing_here (nat_le least n) refl
 
 pub size_at_within : (least : ℕ) (key : List ℕ) (settings : List Setting) → IfSome (size_at least key settings) (IsSizeFrom least)
 size_at_within least key settings = then_gives (size_from least) (IsSizeFrom least) (λ text. from_within least (size_of text) (size_small text)) (last_text key settings)
-
-pub between_gives : (least most n : ℕ) → is_between least most n ≡ true → IsBetween least most n
-between_gives least most n e = let p = both (nat_le least n) (nat_le n most) e in (leb-true least n p.0, leb-true n most p.1)
 
 pub number_at_within : (least most : ℕ) (key : List ℕ) (settings : List Setting) → IfSome (number_at least most key settings) (IsBetween least most)
 number_at_within least most key settings =

@@ -1,4 +1,4 @@
--- What a section's settings have where none of them has a fault.
+-- What a section's keys have where none of its items has a fault.
 use Rattle.std.proofs.Common.{◌≡◌, ℕ, Bool, cond, true, false, List, [], ◌∷◌, ◌++◌, length, Option, Some, None, refl, ◌∙◌, ap}
 use mathlib.Core.List.{reverse_aux}
 use Rattle.std.specs.Prelude.{All, IfSome, find, is_none, option_and_then, reverse, IsSomeAnd}
@@ -9,15 +9,19 @@ use Rattle.conf_items.specs.declared.items.Value.TheVariants.{One, Many}
 use Rattle.conf_items.specs.declared.items.Given.{Given}
 use Rattle.conf_items.specs.declared.items.Given.TheVariants as given
 use Rattle.conf_items.specs.declared.items.Setting.{Setting}
+use Rattle.conf_items.specs.declared.outline.InnerItem.{InnerItem}
+use Rattle.conf_items.specs.declared.outline.InnerItem.TheVariants as inner
+use Rattle.conf_items.specs.declared.outline.SectionItem.{SectionItem}
+use Rattle.conf_items.specs.declared.outline.SectionItem.TheVariants as item
 use Rattle.conf_items.specs.declared.items.Word.{Word}
 use Rattle.conf_keys.specs.declared.checking.SectionFault.{SectionFault}
-use Rattle.conf_keys.specs.declared.checking.SectionFault.TheVariants.{UnknownKey}
 use Rattle.conf_keys.specs.declared.settings.Section.{Section}
 use Rattle.conf_keys.specs.declared.settings.Shape.{Shape}
-use Rattle.conf_keys.specs.Checking.{fault_behind, first_fault, given_fault, keyed_fault, one_fault, setting_fault, shaped_fault}
+use Rattle.conf_keys.specs.Checking.{fault_after, fault_behind, first_fault, first_top_fault, keyed_fault, one_fault, setting_fault, shaped_fault, top_fault}
 use Rattle.conf_keys.specs.Holes.{holes_of}
-use Rattle.conf_keys.specs.Sections.{is_lacking, section_fault}
-use Rattle.conf_keys.specs.Settings.{fits, given_text, has_key, last_of, last_text, shape_of, takes_sections, text_of}
+use Rattle.conf_keys.specs.Items.{inner_keys, top_keys}
+use Rattle.conf_keys.specs.Sections.{is_lacking, section_fault, top_section_fault}
+use Rattle.conf_keys.specs.Settings.{fits, given_text, has_key, last_of, last_text, shape_of, text_of}
 
 -- ---- no fault
 
@@ -25,21 +29,40 @@ pub neither : {X : Type 0} (a b : Option X) → None ≡ option_or a b → (None
 neither None b e = (refl, e)
 neither (Some x) b e = absurd (cc)
 
--- a section without a fault has none at its head and none in its settings
-pub faultless : (head : Option SectionFault) (whose : Section) (settings : List Setting) → None ≡ section_fault head whose settings
-    → (None ≡ head) × (None ≡ first_fault whose settings)
-faultless head whose settings e = neither head (first_fault whose settings) e
+-- a section without a fault has none at its head and none in its items
+pub faultless : (head : Option SectionFault) (whose : Section) (items : List InnerItem) → None ≡ section_fault head whose items
+    → (None ≡ head) × (None ≡ first_fault whose items)
+faultless head whose items e = neither head (first_fault whose items) e
+
+pub top_faultless : (head : Option SectionFault) (whose : Section) (items : List SectionItem) → None ≡ top_section_fault head whose items
+    → (None ≡ head) × (None ≡ first_top_fault whose items)
+top_faultless head whose items e = neither head (first_top_fault whose items) e
 
 abbrev pub Passes : Section → Setting → Type 0
 Passes whose setting = (before : ℕ) × (None ≡ setting_fault whose before setting)
 
-all_pass : (whose : Section) (front settings : List Setting) → None ≡ fault_behind whose front settings → All (Passes whose) settings
-all_pass whose front [] e = All-nil (Passes whose)
-all_pass whose front (setting ∷ rest) e =
-    let both = neither (setting_fault whose (length (holes_of front)) setting) (fault_behind whose (front ++ setting ∷ []) rest) e in
-    All-cons (Passes whose) setting rest (length (holes_of front), both.0) (all_pass whose (front ++ setting ∷ []) rest both.1)
+keys_behind : (whose : Section) (front items : List InnerItem) → None ≡ fault_behind whose front items → All (Passes whose) (inner_keys items)
+keys_behind whose front [] e = All-nil (Passes whose)
+keys_behind whose front (inner.Key setting ∷ rest) e =
+    let both = neither (fault_after whose front (inner.Key setting)) (fault_behind whose (front ++ inner.Key setting ∷ []) rest) e in
+    All-cons (Passes whose) setting (inner_keys rest) (length (holes_of (inner_keys front)), both.0) (keys_behind whose (front ++ inner.Key setting ∷ []) rest both.1)
+keys_behind whose front (inner.Section head ∷ rest) e =
+    let both = neither (fault_after whose front (inner.Section head)) (fault_behind whose (front ++ inner.Section head ∷ []) rest) e in
+    keys_behind whose (front ++ inner.Section head ∷ []) rest both.1
 
--- ---- the last setting of a key
+pub keys_pass : (whose : Section) (items : List InnerItem) → None ≡ first_fault whose items → All (Passes whose) (inner_keys items)
+keys_pass whose items e = keys_behind whose [] items e
+
+pub top_keys_pass : (whose : Section) (items : List SectionItem) → None ≡ first_top_fault whose items → All (Passes whose) (top_keys items)
+top_keys_pass whose [] e = All-nil (Passes whose)
+top_keys_pass whose (item.Key setting ∷ rest) e =
+    let both = neither (top_fault whose (item.Key setting)) (first_top_fault whose rest) e in
+    All-cons (Passes whose) setting (top_keys rest) (0, both.0) (top_keys_pass whose rest both.1)
+top_keys_pass whose (item.Section section ∷ rest) e =
+    let both = neither (top_fault whose (item.Section section)) (first_top_fault whose rest) e in
+    top_keys_pass whose rest both.1
+
+-- ---- the last key of a name
 
 All-aux : {X : Type 0} (P : X → Type 0) (xs onto : List X) → All P xs → All P onto → All P (reverse_aux xs onto)
 All-aux P [] onto h k = k
@@ -77,31 +100,29 @@ single_fault : (whose : Section) (form : Shape) (key : Word) (before : ℕ) (wha
     → None ≡ keyed_fault before key.place (shape_of whose key.text) what → None ≡ one_fault form what
 single_fault whose form key before what shape single e = (e ∙ ap (λ found. keyed_fault before key.place found what) shape) ∙ single before what
 
-given_fits : (whose : Section) (form : Shape) (key : Word) (before : ℕ) (what : Given) → takes_sections whose ≡ false → shape_of whose key.text ≡ Some form → IsSingle form
-    → None ≡ given_fault whose before key what → IsFitting form (given_text what)
-given_fits whose form key before (given.Set (One word)) none shape single e =
+given_fits : (whose : Section) (form : Shape) (key : Word) (before : ℕ) (what : Given) → shape_of whose key.text ≡ Some form → IsSingle form
+    → None ≡ keyed_fault before key.place (shape_of whose key.text) what → IsFitting form (given_text what)
+given_fits whose form key before (given.Set (One word)) shape single e =
     fits_from (fits form word.text) _ (single_fault whose form key before (given.Set (One word)) shape single e)
-given_fits whose form key before (given.Set (Many place words)) none shape single e =
+given_fits whose form key before (given.Set (Many place words)) shape single e =
     let fails = single_fault whose form key before (given.Set (Many place words)) shape single e in absurd (cc)
-given_fits whose form key before (given.Added value) none shape single e =
+given_fits whose form key before (given.Added value) shape single e =
     let fails = single_fault whose form key before (given.Added value) shape single e in absurd (cc)
-given_fits whose form key before given.Section none shape single e =
-    let fails = e ∙ ap (λ taken. cond taken None (Some (UnknownKey key.place))) none in absurd (cc)
 
 pub key_is : (key : List ℕ) (setting : Setting) → has_key key setting ≡ true → setting.key.text ≡ key
 key_is key setting e = (bytes_eq-Decides setting.key.text key).0 e
 
-setting_fits : (whose : Section) (form : Shape) (key : List ℕ) (setting : Setting) → takes_sections whose ≡ false → shape_of whose key ≡ Some form → IsSingle form
+setting_fits : (whose : Section) (form : Shape) (key : List ℕ) (setting : Setting) → shape_of whose key ≡ Some form → IsSingle form
     → has_key key setting ≡ true → Passes whose setting → IsFitting form (text_of setting)
-setting_fits whose form key setting none shape single has passes =
-    given_fits whose form setting.key passes.0 setting.given none (ap (shape_of whose) (key_is key setting has) ∙ shape) single passes.1
+setting_fits whose form key setting shape single has passes =
+    given_fits whose form setting.key passes.0 setting.given (ap (shape_of whose) (key_is key setting has) ∙ shape) single passes.1
 
--- a key that isn't lacking has a single value that fits, in a section of which no setting has a fault
-pub last_fits : (whose : Section) (form : Shape) (key : List ℕ) (settings : List Setting) → takes_sections whose ≡ false → shape_of whose key ≡ Some form → IsSingle form
-    → None ≡ first_fault whose settings → is_lacking key settings ≡ false → IsFitting form (last_text key settings)
-last_fits whose form key settings none shape single faultless lacking =
-    at (last_of key settings) (last_gives key (Passes whose) settings (all_pass whose [] settings faultless)) lacking
+-- a key that isn't lacking has a single value that fits, in a section of which no key has a fault
+pub last_fits : (whose : Section) (form : Shape) (key : List ℕ) (settings : List Setting) → shape_of whose key ≡ Some form → IsSingle form
+    → All (Passes whose) settings → is_lacking key settings ≡ false → IsFitting form (last_text key settings)
+last_fits whose form key settings shape single pass lacking =
+    at (last_of key settings) (last_gives key (Passes whose) settings pass) lacking
   where
     at : (last : Option Setting) → IfSome last (λ setting. (has_key key setting ≡ true) × Passes whose setting) → is_none last ≡ false → IsFitting form (option_and_then text_of last)
     at None h e = absurd (cc)
-    at (Some setting) h e = setting_fits whose form key setting none shape single h.0 h.1
+    at (Some setting) h e = setting_fits whose form key setting shape single h.0 h.1

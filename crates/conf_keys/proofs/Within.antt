@@ -7,19 +7,26 @@ use Rattle.base_fields.specs.declared.memory.NoMemory.{NoMemory}
 use Rattle.conf_items.specs.declared.items.Head.{Head}
 use Rattle.conf_items.specs.declared.items.Place.{Place}
 use Rattle.conf_items.specs.declared.items.Setting.{Setting}
+use Rattle.conf_items.specs.declared.outline.InnerItem.{InnerItem}
+use Rattle.conf_items.specs.declared.outline.SectionItem.{SectionItem}
 use Rattle.conf_items.specs.declared.items.Word.{Word}
 use Rattle.conf_keys.specs.declared.checking.SectionFault.{SectionFault}
 use Rattle.conf_keys.specs.declared.checking.SectionFault.TheVariants as fault
 use Rattle.conf_keys.specs.declared.settings.Section.TheVariants as section
 use Rattle.conf_keys.specs.declared.settings.Shape.TheVariants as shape
 use Rattle.conf_keys.specs.Partitions.{name_unfit, partition_head_fault, partition_values}
-use Rattle.conf_keys.specs.Sections.{block_size_at, flash_head_fault, flash_values, is_lacking, is_product_past, is_too_large, lacks_key, name_lacks, named_fault, numpebs_at, pebsize_at, section_fault, sparse_head_fault, sparse_values, unnamed_fault, word_text}
+use Rattle.conf_keys.specs.Sections.{block_size_at, flash_head_fault, flash_values, is_lacking, is_product_past, is_too_large, lacks_key, name_lacks, named_fault, numpebs_at, pebsize_at, section_fault, sparse_head_fault, sparse_values, top_section_fault, unnamed_fault, word_text}
+use Rattle.conf_keys.specs.Items.{inner_keys, top_keys}
 use Rattle.conf_keys.specs.Settings.{last_text}
-use Rattle.conf_keys.specs.Values.{is_between, is_partition_name, passing, power_between, size_from, size_of, number_between}
-use Rattle.conf_keys.specs.Within.{IsBetween, IsFlashWithin, IsPartitionWithin, IsSizeFrom, IsSparseWithin}
+use Rattle.conf_values.specs.Values.{is_partition_name, power_between, size_from, size_of, number_between}
+use Rattle.conf_keys.specs.Within.{IsFlashWithin, IsPartitionWithin, IsSizeFrom, IsSparseWithin}
 use Rattle.conf_keys.proofs.Holes.{few_holes, holes_within}
-use Rattle.conf_keys.proofs.Limits.{between_gives, both, number_at_within, or_within, passing_gives, size_at_within, then_gives}
-use Rattle.conf_keys.proofs.Settled.{IsFitting, faultless, last_fits}
+use Rattle.base_fields.proofs.Between.{power_between_gives}
+use Rattle.base_fields.specs.Numbers.{IsBetween, IsPowerBetween, is_power_between}
+use Rattle.base_fields.specs.Results.{passing}
+use Rattle.conf_values.proofs.Sizes.{passing_gives, then_gives}
+use Rattle.conf_keys.proofs.Limits.{number_at_within, or_within, size_at_within}
+use Rattle.conf_keys.proofs.Settled.{IsFitting, faultless, keys_pass, last_fits, top_faultless, top_keys_pass}
 
 -- what a section's values have, its answer has
 pub kept_within : {Keys : Type 0} (P : Keys → Type 0) (wanted : Keys) (values : Result Keys NoMemory) (result : Result Keys SectionFault) → P wanted
@@ -60,19 +67,21 @@ product_small (Some size) (Some count) some there e = ltb-false (2 ^ 43) (size *
 product_small None count some there e = absurd (cc)
 product_small (Some size) None some there e = absurd (cc)
 
-pub flash_within : (head : Head) (settings : List Setting) (found : Option SectionFault) → found ≡ flash_head_fault head settings → None ≡ section_fault found section.Flash settings
-    → IsFlashWithin (flash_values head settings)
-flash_within head settings found is e =
-    let none = faultless found section.Flash settings e in
+pub flash_within : (head : Head) (items : List SectionItem) (found : Option SectionFault) → found ≡ flash_head_fault head (top_keys items) → None ≡ top_section_fault found section.Flash items
+    → IsFlashWithin (flash_values head (top_keys items))
+flash_within head items found is e =
+    let settings = top_keys items in
+    let none = top_faultless found section.Flash items e in
+    let pass = top_keys_pass section.Flash items none.1 in
     let heads = first_none (lacks_key settings || is_too_large settings) (fault.BadValue head.word.place) (named_fault head) (none.0 ∙ is) in
     let tests = neither_test (lacks_key settings) (is_too_large settings) heads.0 in
     let lacks = neither_test (is_lacking (codes "pebsize") settings) (is_lacking (codes "numpebs") settings) tests.0 in
     let size : is_some (pebsize_at settings) ≡ true
     = is_there (size_from 1) (last_text (codes "pebsize") settings)
-    (last_fits section.Flash (shape.Size 1) (codes "pebsize") settings refl refl (λ before what. refl) none.1 lacks.0) in
+    (last_fits section.Flash (shape.Size 1) (codes "pebsize") settings refl (λ before what. refl) pass lacks.0) in
     let count : is_some (numpebs_at settings) ≡ true
     = is_there (number_between 1 (2 ^ 64 - 1)) (last_text (codes "numpebs") settings)
-    (last_fits section.Flash (shape.Number 1 (2 ^ 64 - 1)) (codes "numpebs") settings refl refl (λ before what. refl) none.1 lacks.1) in
+    (last_fits section.Flash (shape.Number 1 (2 ^ 64 - 1)) (codes "numpebs") settings refl (λ before what. refl) pass lacks.1) in
     record {
       name = named_length head.word.place head.name heads.1;
       pebsize = (there_within (IsSizeFrom 1) (pebsize_at settings) 0 size (size_at_within 1 (codes "pebsize") settings)).0;
@@ -82,39 +91,36 @@ flash_within head settings found is e =
 
 -- ---- android-sparse
 
-abbrev IsBlock : ℕ → Type 0
-IsBlock n = IsTrue (is_power_of_two n) × IsBetween 4096 1048576 n
-
-block_within : (settings : List Setting) → IfSome (block_size_at settings) IsBlock
+block_within : (settings : List Setting) → IfSome (block_size_at settings) (IsPowerBetween 4096 1048576)
 block_within settings =
-    then_gives (power_between 4096 1048576) IsBlock
-    (λ text. then_gives (passing (λ n. is_power_of_two n && is_between 4096 1048576 n)) IsBlock
-    (passing_gives (λ n. is_power_of_two n && is_between 4096 1048576 n) IsBlock
-    (λ n e. let p = both (is_power_of_two n) (is_between 4096 1048576 n) e in (p.0, between_gives 4096 1048576 n p.1)))
+    then_gives (power_between 4096 1048576) (IsPowerBetween 4096 1048576)
+    (λ text. then_gives (passing (is_power_between 4096 1048576)) (IsPowerBetween 4096 1048576)
+    (passing_gives (is_power_between 4096 1048576) (IsPowerBetween 4096 1048576) (power_between_gives 4096 1048576))
     (size_of text))
     (last_text (codes "block-size") settings)
 
 -- what an image without the section has
-usual_block : IsBlock 4096
+usual_block : IsPowerBetween 4096 1048576 4096
 unfolding ones
-usual_block = (refl, (omega arith, omega arith))
+usual_block = record { power = refl; not_below = omega arith; not_above = omega arith }
 
 pub sparse_within : (settings : List Setting) → IsSparseWithin (sparse_values settings)
 sparse_within settings =
-    let block = or_within IsBlock (block_size_at settings) 4096 usual_block (block_within settings) in
-    record { power = block.0; block_size = block.1 }
+    let block = or_within (IsPowerBetween 4096 1048576) (block_size_at settings) 4096 usual_block (block_within settings) in
+    record { power = block.power; block_size = (block.not_below, block.not_above) }
 
 some_text : (found : Option (List ℕ)) → IsFitting shape.Text found → IsSome found
 some_text None h = absurd h
 some_text (Some text) h = refl
 
-pub sparse_image : (head : Head) (settings : List Setting) (found : Option SectionFault) → found ≡ sparse_head_fault head settings → None ≡ section_fault found section.Sparse settings
-    → IsSome (last_text (codes "image") settings)
-sparse_image head settings found is e =
-    let none = faultless found section.Sparse settings e in
+pub sparse_image : (head : Head) (items : List InnerItem) (found : Option SectionFault) → found ≡ sparse_head_fault head (inner_keys items) → None ≡ section_fault found section.Sparse items
+    → IsSome (last_text (codes "image") (inner_keys items))
+sparse_image head items found is e =
+    let settings = inner_keys items in
+    let none = faultless found section.Sparse items e in
     let there = first_none (is_lacking (codes "image") settings) (fault.BadValue head.word.place) (unnamed_fault head) (none.0 ∙ is) in
     some_text (last_text (codes "image") settings)
-    (last_fits section.Sparse shape.Text (codes "image") settings refl refl (λ before what. refl) none.1 there.0)
+    (last_fits section.Sparse shape.Text (codes "image") settings refl (λ before what. refl) (keys_pass section.Sparse items none.1) there.0)
 
 -- ---- partition
 
@@ -126,10 +132,11 @@ named_fit place (Some word) e = at (is_partition_name word.text) e
     at true e = refl
     at false e = absurd (cc)
 
-pub partition_within : (head : Head) (settings : List Setting) (found : Option SectionFault) → found ≡ partition_head_fault head → None ≡ section_fault found section.Partition settings
-    → IsPartitionWithin (partition_values head settings)
-partition_within head settings found is e =
-    let none = faultless found section.Partition settings e in
+pub partition_within : (head : Head) (items : List InnerItem) (found : Option SectionFault) → found ≡ partition_head_fault head → None ≡ section_fault found section.Partition items
+    → IsPartitionWithin (partition_values head (inner_keys items))
+partition_within head items found is e =
+    let settings = inner_keys items in
+    let none = faultless found section.Partition items e in
     record {
       name = named_fit head.word.place head.name (none.0 ∙ is);
       offset = size_at_within 0 (codes "offset") settings;
@@ -137,5 +144,5 @@ partition_within head settings found is e =
       align = size_at_within 1 (codes "align") settings;
       partition_type = number_at_within 1 255 (codes "partition-type") settings;
       holes = holes_within settings;
-      few_holes = few_holes settings none.1;
+      few_holes = few_holes items none.1;
     }

@@ -1,4 +1,4 @@
--- The keys of a partition, from its settings in order.
+-- The keys of a partition, from its items in order.
 use Rattle.std.specs.Prelude.{ℕ, true, false, List, Option, Some, None, option_and_then, unwrap_or, Result, codes, if◌then◌else◌}
 use Rattle.conf_keys.specs.declared.checking.SectionFault.{SectionFault}
 use Rattle.conf_keys.specs.declared.checking.SectionFault.TheVariants.{BadValue}
@@ -7,11 +7,13 @@ use Rattle.conf_items.specs.declared.items.Head.{Head}
 use Rattle.conf_items.specs.declared.items.Place.{Place}
 use Rattle.conf_items.specs.declared.items.Word.{Word}
 use Rattle.conf_items.specs.declared.items.Setting.{Setting}
+use Rattle.conf_items.specs.declared.outline.InnerItem.{InnerItem}
 use Rattle.conf_keys.specs.declared.settings.Section.TheVariants as section
 use Rattle.conf_keys.specs.Holes.{holes_of}
+use Rattle.conf_keys.specs.Items.{inner_keys}
 use Rattle.conf_keys.specs.Sections.{answer, identifier_at, name_text, number_at, section_fault, size_at, truth_at}
 use Rattle.conf_keys.specs.Settings.{last_text}
-use Rattle.conf_keys.specs.Values.{is_partition_name, linux_data, type_of}
+use Rattle.conf_values.specs.Values.{is_partition_name, linux_data, type_of}
 
 -- a partition has to have a name, of 1 to 36 characters of 0x20 to 0x7E
 abbrev pub name_unfit : Place → Option Word → Option SectionFault
@@ -46,6 +48,7 @@ partition_values head settings = record {
   holes = holes_of settings;
 }
 
-abbrev pub partition_of : Head → List Setting → Result PartitionSection SectionFault
-partition_of head settings =
-    answer (section_fault (partition_head_fault head) section.Partition settings) (partition_values head settings)
+abbrev pub partition_of : Head → List InnerItem → Result PartitionSection SectionFault
+partition_of head items = answer
+    (section_fault (partition_head_fault head) section.Partition items)
+    (partition_values head (inner_keys items))

@@ -1,4 +1,4 @@
--- The keys of each section, from its settings in order: for each key the value of its last setting, or the default.
+-- The keys of each section, from its items in order: for each key its last value, or the default.
 use Rattle.std.specs.Prelude.{ℕ, ◌-◌, ◌*◌, ◌^◌, Bool, true, false, ◌||◌, ◌==◌, nat_lt, List, [], length, Option, Some, None, option_and_then, unwrap_or, Result, Ok, Err, codes, ◌≡◌, ◌≢◌, MatchResult, is_none, if◌then◌else◌}
 use Rattle.std.specs.Option.{option_or}
 use Rattle.uuid.specs.Text.{parsed}
@@ -13,14 +13,17 @@ use Rattle.conf_keys.specs.declared.conf.SparseKeys.{SparseKeys}
 use Rattle.conf_items.specs.declared.items.Place.{Place}
 use Rattle.conf_items.specs.declared.items.Word.{Word}
 use Rattle.conf_items.specs.declared.items.Setting.{Setting}
+use Rattle.conf_items.specs.declared.outline.InnerItem.{InnerItem}
+use Rattle.conf_items.specs.declared.outline.SectionItem.{SectionItem}
 use Rattle.conf_keys.specs.declared.settings.Section.{Section}
 use Rattle.conf_keys.specs.declared.settings.Section.TheVariants as section
 use Rattle.conf_items.specs.declared.items.Head.{Head}
 use Rattle.conf_keys.specs.declared.checking.SectionFault.{SectionFault}
 use Rattle.conf_keys.specs.declared.checking.SectionFault.TheVariants.{BadValue, NoMemory}
-use Rattle.conf_keys.specs.Checking.{first_fault}
+use Rattle.conf_keys.specs.Checking.{first_fault, first_top_fault}
+use Rattle.conf_keys.specs.Items.{inner_keys, top_keys}
 use Rattle.conf_keys.specs.Settings.{last_of, last_text}
-use Rattle.conf_keys.specs.Values.{number_between, power_between, sector_of, size_from, table_of, truth_of}
+use Rattle.conf_values.specs.Values.{number_between, power_between, sector_of, size_from, table_of, truth_of}
 
 -- ---- faults
 
@@ -47,9 +50,12 @@ word_text (Some word) = word.text
 abbrev pub name_text : Head → List ℕ
 name_text head = word_text head.name
 
--- the fault of the head comes first, then that of the first setting that has one
-abbrev pub section_fault : Option SectionFault → Section → List Setting → Option SectionFault
-section_fault head whose settings = option_or head (first_fault whose settings)
+-- the fault of the head comes first, then that of the first item that has one
+abbrev pub section_fault : Option SectionFault → Section → List InnerItem → Option SectionFault
+section_fault head whose items = option_or head (first_fault whose items)
+
+abbrev pub top_section_fault : Option SectionFault → Section → List SectionItem → Option SectionFault
+top_section_fault head whose items = option_or head (first_top_fault whose items)
 
 abbrev pub answer : {Keys : Type 0} → Option SectionFault → Keys → Result Keys SectionFault
 answer None keys = Ok keys
@@ -105,8 +111,10 @@ hd_values settings = record {
   sector_size = sector_size_of settings;
 }
 
-abbrev pub hd_of : Head → List Setting → Result HdKeys SectionFault
-hd_of head settings = answer (section_fault (unnamed_fault head) (hd_section settings) settings) (hd_values settings)
+abbrev pub hd_of : Head → List InnerItem → Result HdKeys SectionFault
+hd_of head items = answer
+    (section_fault (unnamed_fault head) (hd_section (inner_keys items)) items)
+    (hd_values (inner_keys items))
 
 -- ---- sections with texts
 
@@ -120,14 +128,16 @@ config_values settings = record {
   outputpath = last_text (codes "outputpath") settings;
 }
 
-abbrev pub config_of : Head → List Setting → Result ConfigKeys SectionFault
-config_of head settings = answer (section_fault (unnamed_fault head) section.Config settings) (config_values settings)
+abbrev pub config_of : Head → List SectionItem → Result ConfigKeys SectionFault
+config_of head items =
+    answer (top_section_fault (unnamed_fault head) section.Config items) (config_values (top_keys items))
 
 abbrev pub plain_values : List Setting → PlainKeys
 plain_values settings = record { name = last_text (codes "name") settings }
 
-abbrev pub plain_of : Head → List Setting → Result PlainKeys SectionFault
-plain_of head settings = answer (section_fault (unnamed_fault head) section.Plain settings) (plain_values settings)
+abbrev pub plain_of : Head → List InnerItem → Result PlainKeys SectionFault
+plain_of head items =
+    answer (section_fault (unnamed_fault head) section.Plain items) (plain_values (inner_keys items))
 
 -- ---- android-sparse
 
@@ -148,8 +158,10 @@ sparse_values settings = record {
   block_size = unwrap_or (block_size_at settings) 4096;
 }
 
-abbrev pub sparse_of : Head → List Setting → Result SparseKeys SectionFault
-sparse_of head settings = answer (section_fault (sparse_head_fault head settings) section.Sparse settings) (sparse_values settings)
+abbrev pub sparse_of : Head → List InnerItem → Result SparseKeys SectionFault
+sparse_of head items = answer
+    (section_fault (sparse_head_fault head (inner_keys items)) section.Sparse items)
+    (sparse_values (inner_keys items))
 
 -- ---- flash at the top
 
@@ -186,8 +198,10 @@ flash_values head settings = record {
   numpebs = unwrap_or (numpebs_at settings) 0;
 }
 
-abbrev pub flash_of : Head → List Setting → Result FlashSection SectionFault
-flash_of head settings = answer (section_fault (flash_head_fault head settings) section.Flash settings) (flash_values head settings)
+abbrev pub flash_of : Head → List SectionItem → Result FlashSection SectionFault
+flash_of head items = answer
+    (top_section_fault (flash_head_fault head (top_keys items)) section.Flash items)
+    (flash_values head (top_keys items))
 
 -- ---- image
 

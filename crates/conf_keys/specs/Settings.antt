@@ -10,7 +10,7 @@ use Rattle.conf_keys.specs.declared.settings.Section.{Section}
 use Rattle.conf_keys.specs.declared.settings.Section.TheVariants as section
 use Rattle.conf_keys.specs.declared.settings.Shape.{Shape}
 use Rattle.conf_keys.specs.declared.settings.Shape.TheVariants as shape
-use Rattle.conf_keys.specs.Values.{number_between, power_between, sector_of, size_from, table_of, truth_of, type_of}
+use Rattle.conf_values.specs.Values.{number_between, power_between, sector_of, size_from, table_of, truth_of, type_of}
 
 -- ---- which keys there are, and what their values may be
 

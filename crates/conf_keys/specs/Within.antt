@@ -1,24 +1,22 @@
 -- The values of all keys are such as the table of keys allows, and the names and sizes within the limits.
 use Rattle.std.specs.Prelude.{◌≡◌, ℕ, ◌*◌, ◌^◌, ◌<◌, ◌≤◌, ◌⊎◌, IsTrue, IfSome, IsSome, All, Contains, length}
 use Rattle.std.specs.Int.{is_power_of_two}
+use Rattle.base_fields.specs.Numbers.{IsBetween}
 use Rattle.base_fields.specs.declared.spans.TableKind.{TableKind}
 use Rattle.base_fields.specs.declared.spans.TableKind.TheVariants as table
 use Rattle.conf_keys.specs.declared.conf.Conf.{Conf}
 use Rattle.conf_keys.specs.declared.conf.FlashSection.{FlashSection}
 use Rattle.conf_keys.specs.declared.conf.HdKeys.{HdKeys}
-use Rattle.conf_keys.specs.declared.conf.Hole.{Hole}
+use Rattle.conf_values.specs.declared.values.Hole.{Hole}
 use Rattle.conf_keys.specs.declared.conf.ImageSection.{ImageSection}
 use Rattle.conf_keys.specs.declared.conf.Kind.TheVariants.{Sparse}
 use Rattle.conf_keys.specs.declared.conf.PartitionSection.{PartitionSection}
 use Rattle.conf_keys.specs.declared.conf.SparseKeys.{SparseKeys}
-use Rattle.conf_keys.specs.Values.{is_partition_name}
+use Rattle.conf_values.specs.Values.{is_partition_name}
 
 -- at most so many bytes as a size of a text may have, and at least the given
 abbrev pub IsSizeFrom : ℕ → ℕ → Type 0
 IsSizeFrom least n = (least ≤ n) × (n ≤ 2 ^ 43)
-
-abbrev pub IsBetween : ℕ → ℕ → ℕ → Type 0
-IsBetween least most n = (least ≤ n) × (n ≤ most)
 
 -- 512, or 4096 where the table is a GUID partition table or none
 abbrev pub IsSectorSize : TableKind → ℕ → Type 0

@@ -1,15 +1,15 @@
-//! The first setting of a section that has another key or value.
+//! The first item of a section that has another key or value.
 ghost use Rattle.std.specs.Prelude.{◌≡◌, List, filter, length};
-ghost use Rattle.conf_keys.specs.declared.conf.Hole.{Hole};
-ghost use Rattle.conf_keys.specs.Checking.{first_fault, held, is_hole, listed_fault, one_fault};
-ghost use Rattle.conf_keys.specs.Checking.{setting_fault, shaped_fault, value_place, word_fault};
-ghost use Rattle.conf_keys.specs.Checking.{words_fault};
-ghost use Rattle.conf_keys.specs.Holes.{with_setting};
+ghost use Rattle.conf_values.specs.declared.values.Hole.{Hole};
+ghost use Rattle.conf_keys.specs.Checking.{first_fault, first_top_fault, held, inside_fault};
+ghost use Rattle.conf_keys.specs.Checking.{is_hole, item_fault, listed_fault, one_fault};
+ghost use Rattle.conf_keys.specs.Checking.{setting_fault, shaped_fault, top_fault, value_place};
+ghost use Rattle.conf_keys.specs.Checking.{word_fault, words_fault};
+ghost use Rattle.conf_keys.specs.Holes.{with_item, with_setting};
 
 use crate::settings::{Section, Shape};
-use crate::values;
 use base_fields::NoMemory;
-use conf_items::{Given, Place, Setting, Value, Word};
+use conf_items::{Given, Head, InnerItem, Place, SectionItem, Setting, Value, Word};
 use std::error::Error;
 use std::fmt;
 
@@ -63,7 +63,7 @@ fn value_place(value: &Value) -> Place
 fn is_hole(word: &Word) -> bool
     ensures { result ≡ is_hole word.now }
 {
-    values::hole(word.text.text().as_bytes()).is_some()
+    conf_values::hole_of(word.text.text().as_bytes()).is_some()
 }
 
 // The fault of a word in a list of holes, in front of which there are so many holes.
@@ -108,7 +108,6 @@ fn one_fault(shape: Shape, given: &Given) -> Option<SectionFault>
         Given::Set(value) | Given::Added(value) => Some(SectionFault::BadValue {
             place: value_place(value),
         }),
-        Given::Section => None,
     }
 }
 
@@ -123,7 +122,7 @@ fn shaped_fault(shape: Shape, before: usize, given: &Given) -> Option<SectionFau
     }
 }
 
-/// The fault of a setting, in front of which there are so many holes.
+/// The fault of a key, in front of which there are so many holes.
 pub(crate) fn setting_fault(
     section: Section,
     before: usize,
@@ -132,15 +131,31 @@ pub(crate) fn setting_fault(
     ensures { result ≡ setting_fault section before setting.now }
 {
     let place = setting.key.place;
-    if let Given::Section = &setting.given {
-        if section.takes_sections() {
-            return None;
-        }
-        return Some(SectionFault::UnknownKey { place });
-    }
     match section.shape(setting.key.text.text()) {
         Some(shape) => shaped_fault(shape, before, &setting.given),
         None => Some(SectionFault::UnknownKey { place }),
+    }
+}
+
+// The fault of a section inside, where none may stand.
+fn inside_fault(section: Section, head: &Head) -> Option<SectionFault>
+    ensures { result ≡ inside_fault section head.now }
+{
+    if section.takes_sections() {
+        None
+    } else {
+        Some(SectionFault::UnknownKey {
+            place: head.word.place,
+        })
+    }
+}
+
+fn item_fault(section: Section, before: usize, item: &InnerItem) -> Option<SectionFault>
+    ensures { result ≡ item_fault section before item.now }
+{
+    match item {
+        InnerItem::Key(setting) => setting_fault(section, before, setting),
+        InnerItem::Section(head) => inside_fault(section, head),
     }
 }
 
@@ -150,7 +165,7 @@ fn holes_among(words: &[Word]) -> usize
     words.iter().filter(|word| is_hole(word)).count()
 }
 
-// How many holes there are behind a setting, where there were so many before, as far as a usize
+// How many holes there are behind a key, where there were so many before, as far as a usize
 // holds them.
 fn holes_behind(before: usize, setting: &Setting) -> usize
     ensures { (had : List Hole) → before ≡ held had → result ≡ held (with_setting had setting.now) }
@@ -167,16 +182,48 @@ fn holes_behind(before: usize, setting: &Setting) -> usize
     }
 }
 
-/// The first fault of the settings.
-pub(crate) fn first_fault(section: Section, settings: &[Setting]) -> Option<SectionFault>
-    ensures { result ≡ first_fault section settings.now }
+fn holes_past(before: usize, item: &InnerItem) -> usize
+    ensures { (had : List Hole) → before ≡ held had → result ≡ held (with_item had item.now) }
+{
+    match item {
+        InnerItem::Key(setting) => holes_behind(before, setting),
+        InnerItem::Section(_) => before,
+    }
+}
+
+/// The first fault of the items of a section that stands in another.
+pub(crate) fn first_fault(section: Section, items: &[InnerItem]) -> Option<SectionFault>
+    ensures { result ≡ first_fault section items.now }
 {
     let mut before = 0;
-    for setting in settings {
-        if let Some(fault) = setting_fault(section, before, setting) {
+    for item in items {
+        if let Some(fault) = item_fault(section, before, item) {
             return Some(fault);
         }
-        before = holes_behind(before, setting);
+        before = holes_past(before, item);
+    }
+    None
+}
+
+// ---- a section at the top, where no key has holes
+
+fn top_fault(section: Section, item: &SectionItem) -> Option<SectionFault>
+    ensures { result ≡ top_fault section item.now }
+{
+    match item {
+        SectionItem::Key(setting) => setting_fault(section, 0, setting),
+        SectionItem::Section(inner) => inside_fault(section, &inner.head),
+    }
+}
+
+/// The first fault of the items of a section at the top.
+pub(crate) fn first_top_fault(section: Section, items: &[SectionItem]) -> Option<SectionFault>
+    ensures { result ≡ first_top_fault section items.now }
+{
+    for item in items {
+        if let Some(fault) = top_fault(section, item) {
+            return Some(fault);
+        }
     }
     None
 }

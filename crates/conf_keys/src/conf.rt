@@ -3,6 +3,7 @@ ghost use Rattle.conf_keys.specs.Sections.{hd_values, plain_values, sparse_value
 ghost use Rattle.conf_keys.specs.Within.{IsHdWithin, IsSparseWithin};
 
 use base_fields::{List, Name, Pair, TableKind};
+use conf_values::Hole;
 
 /// The variables of a configuration. The first pair with a name counts.
 pub type Vars = List<Pair>;
@@ -33,15 +34,6 @@ pub enum Kind {
     Plain,
     /// Any other section: its file is made elsewhere.
     Ready,
-}
-
-/// A run of bytes of a partition's file that stays out of the image.
-#[derive(Clone, Copy, Debug, PartialEq, Eq)]
-pub struct Hole {
-    /// Its first byte.
-    pub from: u64,
-    /// The byte behind its last one.
-    pub to: u64,
 }
 
 /// A kind of flash device.
@@ -105,7 +97,7 @@ pub struct HdKeys {
 }
 
 impl HdKeys {
-    /// The keys of an image without a section `hdimage`: those of one without settings.
+    /// The keys of an image without a section `hdimage`: those of one without items.
     pub fn defaults() -> HdKeys
         ensures keys { result ≡ hd_values [] }
         ensures within { IsHdWithin result }
@@ -134,7 +126,7 @@ pub struct SparseKeys {
 }
 
 impl SparseKeys {
-    /// The keys of an image without a section `android-sparse`: those of one without settings.
+    /// The keys of an image without a section `android-sparse`: those of one without items.
     pub fn defaults() -> SparseKeys
         ensures keys { result ≡ sparse_values [] }
         ensures within { IsSparseWithin result }
@@ -154,7 +146,7 @@ pub struct PlainKeys {
 }
 
 impl PlainKeys {
-    /// The keys of an image without a section `file`: those of one without settings.
+    /// The keys of an image without a section `file`: those of one without items.
     pub fn defaults() -> PlainKeys
         ensures { result ≡ plain_values [] }
     {

@@ -1,12 +1,8 @@
-//! The settings of a section as they were read, and what a key's value may be.
-ghost use Rattle.std.specs.Prelude.{◌≡◌, option_copied, is_some, ◌*◌, IsTrue};
+//! The keys of each section, and which values they may have.
+ghost use Rattle.std.specs.Prelude.{◌≡◌, is_some, ◌*◌, IsTrue};
 ghost use Rattle.conf_keys.specs.Settings.{config_shape, fits, flash_shape, hd_shape, image_shape};
-ghost use Rattle.conf_keys.specs.Settings.{last_of, last_text, partition_flag, partition_shape};
-ghost use Rattle.conf_keys.specs.Settings.{plain_shape, ready_shape, shape_of, sparse_shape};
-ghost use Rattle.conf_keys.specs.Settings.{takes_sections};
-
-use crate::values;
-use conf_items::{Given, Setting, Value};
+ghost use Rattle.conf_keys.specs.Settings.{partition_flag, partition_shape, plain_shape};
+ghost use Rattle.conf_keys.specs.Settings.{ready_shape, shape_of, sparse_shape, takes_sections};
 
 /// Whose keys are looked at.
 #[derive(Clone, Copy, Debug, PartialEq, Eq)]
@@ -197,35 +193,19 @@ impl Shape {
         let bytes = text.as_bytes();
         match self {
             Shape::Anything | Shape::Text => true,
-            Shape::Size { least } => values::size_from(bytes, least).is_some(),
-            Shape::Number { least, most } => values::number_between(bytes, least, most).is_some(),
-            Shape::Power { least, most } => values::power_between(bytes, least, most).is_some(),
-            Shape::Sector { wide } => values::sector(bytes, wide).is_some(),
-            Shape::Truth => values::truth(text).is_some(),
-            Shape::Identifier => values::identifier(text).is_some(),
-            Shape::PartitionType => values::partition_type(text).is_some(),
-            Shape::Table => values::table(text).is_some(),
+            Shape::Size { least } => conf_values::size_from(bytes, least).is_some(),
+            Shape::Number { least, most } => conf_values::number_between(
+                bytes, least, most,
+            ).is_some(),
+            Shape::Power { least, most } => conf_values::power_between(
+                bytes, least, most,
+            ).is_some(),
+            Shape::Sector { wide } => conf_values::sector(bytes, wide).is_some(),
+            Shape::Truth => conf_values::truth(text).is_some(),
+            Shape::Identifier => conf_values::identifier(text).is_some(),
+            Shape::PartitionType => conf_values::partition_type(text).is_some(),
+            Shape::Table => conf_values::table(text).is_some(),
             Shape::Holes => false,
         }
-    }
-}
-
-/// The last setting of a key.
-pub(crate) fn last<'a>(settings: &'a [Setting], key: &str) -> Option<&'a Setting>
-    ensures { option_copied result ≡ last_of key.now settings.now }
-{
-    settings
-        .iter()
-        .rev()
-        .find(|setting| setting.key.text.text() == key)
-}
-
-/// The text of the last setting of a key, where it is a single value behind `=`.
-pub(crate) fn last_text<'a>(settings: &'a [Setting], key: &str) -> Option<&'a str>
-    ensures { option_copied result ≡ last_text key.now settings.now }
-{
-    match &last(settings, key)?.given {
-        Given::Set(Value::One(word)) => Some(word.text.text()),
-        _ => None,
     }
 }

@@ -14,6 +14,3 @@ pub use lexing::lex;
 pub use marks::is_space_byte;
 pub use tokens::{LexFault, Token, TokenKind};
 pub use variables::{name_length, variable_length};
-
-#[cfg(test)]
-mod tests;

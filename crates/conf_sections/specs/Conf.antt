@@ -9,7 +9,7 @@ use Rattle.conf_keys.specs.declared.checking.SectionFault.TheVariants.{UnknownKe
 use Rattle.conf_keys.specs.declared.conf.Conf.{Conf}
 use Rattle.conf_keys.specs.declared.conf.ConfigKeys.{ConfigKeys}
 use Rattle.conf_keys.specs.Sections.{config_of, flash_of}
-use Rattle.conf_walk.specs.Walk.{◌>>=◌}
+use Rattle.base_fields.specs.Results.{◌>>=◌}
 use Rattle.conf_sections.specs.Image.{image_of}
 
 -- of several values the last one counts
@@ -20,10 +20,10 @@ abbrev pub is_word : List ℕ → TopSection → Bool
 is_word word section = bytes_eq section.head.word.text word
 
 abbrev pub config_section : Conf → TopSection → Result Conf SectionFault
-config_section conf section = config_of section.head section.settings >>= λ keys. Ok (with_config conf keys)
+config_section conf section = config_of section.head section.items >>= λ keys. Ok (with_config conf keys)
 
 abbrev pub flash_section : Conf → TopSection → Result Conf SectionFault
-flash_section conf section = flash_of section.head section.settings >>= λ flash. Ok (record conf { flashes = conf.flashes ++ flash ∷ [] })
+flash_section conf section = flash_of section.head section.items >>= λ flash. Ok (record conf { flashes = conf.flashes ++ flash ∷ [] })
 
 abbrev pub image_section : Conf → TopSection → Result Conf SectionFault
 image_section conf section = image_of section >>= λ image. Ok (record conf { images = conf.images ++ image ∷ [] })

@@ -2,9 +2,9 @@
 use Rattle.std.specs.Prelude.{ℕ, Bool, true, false, List, [], ◌∷◌, ◌++◌, None, Result, Ok, codes, if◌then◌else◌}
 use Rattle.std.specs.List.{list_any}
 use Rattle.std.specs.Str.{bytes_eq}
-use Rattle.conf_items.specs.declared.items.Given.{Given}
-use Rattle.conf_items.specs.declared.items.Given.TheVariants as given
 use Rattle.conf_items.specs.declared.items.Setting.{Setting}
+use Rattle.conf_items.specs.declared.outline.SectionItem.{SectionItem}
+use Rattle.conf_items.specs.declared.outline.SectionItem.TheVariants as item
 use Rattle.conf_items.specs.declared.outline.Subsection.{Subsection}
 use Rattle.conf_items.specs.declared.outline.TopSection.{TopSection}
 use Rattle.conf_keys.specs.declared.checking.SectionFault.{SectionFault}
@@ -14,9 +14,10 @@ use Rattle.conf_keys.specs.declared.conf.Kind.TheVariants as kind
 use Rattle.conf_keys.specs.declared.settings.Section.{Section}
 use Rattle.conf_keys.specs.declared.settings.Section.TheVariants as section
 use Rattle.conf_keys.specs.Checking.{setting_fault}
+use Rattle.conf_keys.specs.Items.{top_keys}
 use Rattle.conf_keys.specs.Partitions.{partition_of}
 use Rattle.conf_keys.specs.Sections.{answer, hd_of, hd_values, image_values, name_text, named_fault, plain_of, plain_values, section_fault, sparse_of, sparse_values, unnamed_fault}
-use Rattle.conf_walk.specs.Walk.{◌>>=◌}
+use Rattle.base_fields.specs.Results.{◌>>=◌}
 use Rattle.conf_sections.specs.declared.image.Origin.{Origin}
 use Rattle.conf_sections.specs.declared.image.Origin.TheVariants.{Made, Ready}
 
@@ -41,20 +42,24 @@ is_made kind.Ready = false
 is_made _ = true
 
 -- an image is made where it has a section of one of the four kinds
-abbrev pub is_image_made : List Subsection → Bool
-is_image_made sections = list_any (λ inner. is_made (kind_of (word_of inner))) sections
+abbrev pub makes : SectionItem → Bool
+makes (item.Key setting) = false
+makes (item.Section inner) = is_made (kind_of (word_of inner))
 
-abbrev pub origin_of : List Subsection → Origin
-origin_of sections = if is_image_made sections then Made else Ready
+abbrev pub is_image_made : List SectionItem → Bool
+is_image_made items = list_any makes items
+
+abbrev pub origin_of : List SectionItem → Origin
+origin_of items = if is_image_made items then Made else Ready
 
 -- ---- a section inside
 
 -- the image with the keys of a section of that kind, or the section's first fault
 abbrev pub keyed : ImageSection → Subsection → Kind → Result ImageSection SectionFault
-keyed image inner kind.Hd = hd_of inner.head inner.settings >>= λ keys. Ok (record image { hd = keys })
-keyed image inner kind.Flash = answer (section_fault (unnamed_fault inner.head) section.Device inner.settings) image
-keyed image inner kind.Sparse = sparse_of inner.head inner.settings >>= λ keys. Ok (record image { sparse = keys })
-keyed image inner kind.Plain = plain_of inner.head inner.settings >>= λ keys. Ok (record image { plain = keys })
+keyed image inner kind.Hd = hd_of inner.head inner.items >>= λ keys. Ok (record image { hd = keys })
+keyed image inner kind.Flash = answer (section_fault (unnamed_fault inner.head) section.Device inner.items) image
+keyed image inner kind.Sparse = sparse_of inner.head inner.items >>= λ keys. Ok (record image { sparse = keys })
+keyed image inner kind.Plain = plain_of inner.head inner.items >>= λ keys. Ok (record image { plain = keys })
 keyed image inner kind.Ready = Ok image
 
 abbrev pub of_kind : Kind → ImageSection → ImageSection
@@ -64,7 +69,7 @@ abbrev pub with_kind : ImageSection → Subsection → Kind → Result ImageSect
 with_kind image inner kind = keyed image inner kind >>= λ after. Ok (of_kind kind after)
 
 abbrev pub with_partition : ImageSection → Subsection → Result ImageSection SectionFault
-with_partition image inner = partition_of inner.head inner.settings >>= λ keys. Ok (record image { parts = image.parts ++ keys ∷ [] })
+with_partition image inner = partition_of inner.head inner.items >>= λ keys. Ok (record image { parts = image.parts ++ keys ∷ [] })
 
 abbrev pub with_section : ImageSection → Subsection → Result ImageSection SectionFault
 with_section image inner = if is_partition inner then with_partition image inner else with_kind image inner (kind_of (word_of inner))
@@ -77,7 +82,7 @@ abbrev pub taken : Origin → ImageSection → Subsection → Result ImageSectio
 taken Made image inner = with_section image inner
 taken Ready image inner = Ok (counted image inner)
 
--- ---- all items in order: a key has a fault or none, and each section inside stands behind its word
+-- ---- all items in order
 
 abbrev pub keys_of : Origin → Section
 keys_of Made = section.Image
@@ -87,24 +92,14 @@ keys_of Ready = section.Ready
 abbrev pub with_key : Origin → ImageSection → Setting → Result ImageSection SectionFault
 with_key origin image setting = answer (setting_fault (keys_of origin) 0 setting) image
 
--- the image with an item: the first of the sections that are left, where the item is the word of one, or a key
-abbrev pub with_given : Origin → ImageSection → Setting → Given → List Subsection → Result ImageSection SectionFault
-with_given origin image setting given.Section (inner ∷ more) = taken origin image inner
-with_given origin image setting _ sections = with_key origin image setting
-
-abbrev pub with_item : Origin → ImageSection → Setting → List Subsection → Result ImageSection SectionFault
-with_item origin image setting sections = with_given origin image setting setting.given sections
-
--- the sections that are left behind the item
-abbrev pub left_behind : Given → List Subsection → List Subsection
-left_behind given.Section (inner ∷ more) = more
-left_behind _ sections = sections
+abbrev pub with_item : Origin → ImageSection → SectionItem → Result ImageSection SectionFault
+with_item origin image (item.Key setting) = with_key origin image setting
+with_item origin image (item.Section inner) = taken origin image inner
 
 -- the image with all items, or the first fault
-abbrev pub with_items : Origin → List Setting → List Subsection → ImageSection → Result ImageSection SectionFault
-with_items origin [] sections image = Ok image
-with_items origin (setting ∷ rest) sections image =
-    with_item origin image setting sections >>= with_items origin rest (left_behind setting.given sections)
+abbrev pub with_items : Origin → List SectionItem → ImageSection → Result ImageSection SectionFault
+with_items origin [] image = Ok image
+with_items origin (item ∷ rest) image = with_item origin image item >>= with_items origin rest
 
 -- ---- an image
 
@@ -129,8 +124,8 @@ with_keys Ready settings image = image
 abbrev pub read_as : Origin → TopSection → Result ImageSection SectionFault
 read_as origin top = do
   name ← answer (named_fault top.head) (name_text top.head)
-  whole ← with_items origin top.settings top.sections (image_named name)
-  Ok (with_keys origin top.settings whole)
+  whole ← with_items origin top.items (image_named name)
+  Ok (with_keys origin (top_keys top.items) whole)
 
 abbrev pub image_of : TopSection → Result ImageSection SectionFault
-image_of top = read_as (origin_of top.sections) top
+image_of top = read_as (origin_of top.items) top

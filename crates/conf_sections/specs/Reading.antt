@@ -7,9 +7,10 @@ use Rattle.conf_items.specs.declared.items.Place.{Place}
 use Rattle.conf_keys.specs.declared.checking.SectionFault.{SectionFault}
 use Rattle.conf_keys.specs.declared.checking.SectionFault.TheVariants as section
 use Rattle.conf_keys.specs.declared.conf.Conf.{Conf}
-use Rattle.conf_walk.specs.Walk.{◌>>=◌, refused_by, texts_of}
-use Rattle.conf_walk.specs.declared.fault.WalkFault.{WalkFault}
-use Rattle.conf_walk.specs.declared.fault.WalkFault.TheVariants as walk
+use Rattle.base_fields.specs.Results.{◌>>=◌, refused_by}
+use Rattle.conf_walk.specs.Walk.{texts_of}
+use Rattle.conf_texts.specs.declared.fault.WalkFault.{WalkFault}
+use Rattle.conf_texts.specs.declared.fault.WalkFault.TheVariants as walk
 use Rattle.conf_walk.specs.declared.walking.Texts.{Texts}
 use Rattle.conf_sections.specs.declared.fault.ConfFault.{ConfFault}
 use Rattle.conf_sections.specs.declared.fault.ConfFault.TheVariants.{BadText, Unset, DeepInclude, TooLong, Missing, SourceShort, FileFault, UnknownKey, BadValue, NoMemory}

@@ -28,7 +28,7 @@ fn config_section(alloc: Global, conf: Conf, section: &TopSection) -> Result<Con
     ensures answers { Answers (config_section conf section.now) result }
     ensures within { IfOk result IsWithin }
 {
-    let keys = read_config(alloc, &section.head, section.settings.as_slice())?;
+    let keys = read_config(alloc, &section.head, section.items.as_slice())?;
     Ok(with_config(conf, keys))
 }
 
@@ -37,7 +37,7 @@ fn flash_section(alloc: Global, mut conf: Conf, section: &TopSection) -> Result<
     ensures answers { Answers (flash_section conf section.now) result }
     ensures within { IfOk result IsWithin }
 {
-    let flash = read_flash(alloc, &section.head, section.settings.as_slice())?;
+    let flash = read_flash(alloc, &section.head, section.items.as_slice())?;
     conf.flashes.push(flash)?;
     Ok(conf)
 }

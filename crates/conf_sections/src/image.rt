@@ -2,17 +2,18 @@
 ghost use Rattle.std.specs.Prelude.{◌≡◌, ◌≤◌, IfOk, IsSome, length};
 ghost use Rattle.conf_keys.specs.Sections.{Answers, answer, name_text, named_fault};
 ghost use Rattle.conf_keys.specs.Within.{IsImageWithin};
+ghost use Rattle.conf_keys.specs.Items.{top_keys};
 ghost use Rattle.conf_sections.specs.Image.{counted, image_named, image_of, is_image_made};
 ghost use Rattle.conf_sections.specs.Image.{is_made, is_partition, keyed, keys_of, kind_of};
-ghost use Rattle.conf_sections.specs.Image.{left_behind, of_kind, origin_of, read_as, taken};
+ghost use Rattle.conf_sections.specs.Image.{makes, of_kind, origin_of, read_as, taken};
 ghost use Rattle.conf_sections.specs.Image.{with_item, with_items, with_key, with_keys};
 ghost use Rattle.conf_sections.specs.Image.{with_kind, with_partition, with_section};
 
 use base_fields::{List, Name};
-use conf_items::{Given, Head, Setting, Subsection, TopSection};
+use conf_items::{Head, SectionItem, Setting, Subsection, TopSection};
 use conf_keys::{
     HdKeys, ImageSection, Kind, PlainKeys, Section, SectionFault, SparseKeys, check_device,
-    image_head_fault, image_keys, item_fault, name_text, read_hd, read_partition, read_plain,
+    image_head_fault, image_keys, key_fault, name_text, read_hd, read_partition, read_plain,
     read_sparse,
 };
 use std::alloc::Global;
@@ -62,18 +63,25 @@ fn is_partition(inner: &Subsection) -> bool
     inner.head.word.text.text() == "partition"
 }
 
-fn is_image_made(sections: &[Subsection]) -> bool
-    ensures { result ≡ is_image_made sections.now }
+fn makes(item: &SectionItem) -> bool
+    ensures { result ≡ makes item.now }
 {
-    sections
-        .iter()
-        .any(|inner| is_made(kind_of(inner.head.word.text.text())))
+    match item {
+        SectionItem::Key(_) => false,
+        SectionItem::Section(inner) => is_made(kind_of(inner.head.word.text.text())),
+    }
 }
 
-fn origin_of(sections: &[Subsection]) -> Origin
-    ensures { result ≡ origin_of sections.now }
+fn is_image_made(items: &[SectionItem]) -> bool
+    ensures { result ≡ is_image_made items.now }
 {
-    if is_image_made(sections) {
+    items.iter().any(makes)
+}
+
+fn origin_of(items: &[SectionItem]) -> Origin
+    ensures { result ≡ origin_of items.now }
+{
+    if is_image_made(items) {
         Origin::Made
     } else {
         Origin::Ready
@@ -94,22 +102,22 @@ fn keyed(
     ensures within { IfOk result IsImageWithin }
     ensures sparse { kind ≡ Kind.Sparse → IfOk result (λ after. IsSome after.sparse.image) }
 {
-    let settings = inner.settings.as_slice();
+    let items = inner.items.as_slice();
     match kind {
         Kind::Hd => {
-            image.hd = read_hd(&inner.head, settings)?;
+            image.hd = read_hd(&inner.head, items)?;
             Ok(image)
         }
-        Kind::Flash => match check_device(&inner.head, settings) {
+        Kind::Flash => match check_device(&inner.head, items) {
             Some(fault) => Err(fault),
             None => Ok(image),
         },
         Kind::Sparse => {
-            image.sparse = read_sparse(alloc, &inner.head, settings)?;
+            image.sparse = read_sparse(alloc, &inner.head, items)?;
             Ok(image)
         }
         Kind::Plain => {
-            image.plain = read_plain(alloc, &inner.head, settings)?;
+            image.plain = read_plain(alloc, &inner.head, items)?;
             Ok(image)
         }
         Kind::Ready => Ok(image),
@@ -150,7 +158,7 @@ fn with_partition(
     ensures answers { Answers (with_partition image inner.now) result }
     ensures within { IfOk result IsImageWithin }
 {
-    let keys = read_partition(alloc, &inner.head, inner.settings.as_slice())?;
+    let keys = read_partition(alloc, &inner.head, inner.items.as_slice())?;
     image.parts.push(keys)?;
     Ok(image)
 }
@@ -211,37 +219,25 @@ fn with_key(
     ensures answers { result ≡ with_key origin image setting.now }
     ensures within { IfOk result IsImageWithin }
 {
-    match item_fault(origin.keys(), setting) {
+    match key_fault(origin.keys(), setting) {
         Some(fault) => Err(fault),
         None => Ok(image),
     }
 }
 
-// The image with one item, where these sections are left.
 fn with_item(
     alloc: Global,
     origin: Origin,
     image: ImageSection,
-    setting: &Setting,
-    sections: &[Subsection],
+    item: &SectionItem,
 ) -> Result<ImageSection, SectionFault>
     requires { IsImageWithin image }
-    ensures answers { Answers (with_item origin image setting.now sections.now) result }
+    ensures answers { Answers (with_item origin image item.now) result }
     ensures within { IfOk result IsImageWithin }
 {
-    match (&setting.given, sections) {
-        (Given::Section, [inner, ..]) => taken(alloc, origin, image, inner),
-        _ => with_key(origin, image, setting),
-    }
-}
-
-// The sections that are left behind an item.
-fn left_behind<'a>(setting: &Setting, sections: &'a [Subsection]) -> &'a [Subsection]
-    ensures { result.now ≡ left_behind setting.now.given sections.now }
-{
-    match (&setting.given, sections) {
-        (Given::Section, [_, rest @ ..]) => rest,
-        _ => sections,
+    match item {
+        SectionItem::Key(setting) => with_key(origin, image, setting),
+        SectionItem::Section(inner) => taken(alloc, origin, image, inner),
     }
 }
 
@@ -249,16 +245,14 @@ fn with_items(
     alloc: Global,
     origin: Origin,
     mut image: ImageSection,
-    top: &TopSection,
+    items: &[SectionItem],
 ) -> Result<ImageSection, SectionFault>
     requires { IsImageWithin image }
-    ensures answers { Answers (with_items origin top.now.settings top.now.sections image) result }
+    ensures answers { Answers (with_items origin items.now image) result }
     ensures within { IfOk result IsImageWithin }
 {
-    let mut sections = top.sections.as_slice();
-    for setting in top.settings.as_slice() {
-        image = with_item(alloc, origin, image, setting, sections)?;
-        sections = left_behind(setting, sections);
+    for item in items {
+        image = with_item(alloc, origin, image, item)?;
     }
     Ok(image)
 }
@@ -298,16 +292,16 @@ fn image_named(alloc: Global, name: Name) -> ImageSection
 fn with_keys(
     alloc: Global,
     origin: Origin,
-    settings: &[Setting],
+    items: &[SectionItem],
     mut image: ImageSection,
 ) -> Result<ImageSection, SectionFault>
     requires { IsImageWithin image }
-    ensures answers { Answers (Ok (with_keys origin settings.now image)) result }
+    ensures answers { Answers (Ok (with_keys origin (top_keys items.now) image)) result }
     ensures within { IfOk result IsImageWithin }
 {
     match origin {
         Origin::Made => {
-            let keys = image_keys(alloc, settings)?;
+            let keys = image_keys(alloc, items)?;
             image.size = keys.size;
             image.flashtype = keys.flashtype;
             Ok(image)
@@ -322,8 +316,9 @@ fn read_as(alloc: Global, origin: Origin, top: &TopSection) -> Result<ImageSecti
     ensures within { IfOk result IsImageWithin }
 {
     let name = name_of(alloc, &top.head)?;
-    let whole = with_items(alloc, origin, image_named(alloc, name), top)?;
-    Ok(with_keys(alloc, origin, top.settings.as_slice(), whole)?)
+    let items = top.items.as_slice();
+    let whole = with_items(alloc, origin, image_named(alloc, name), items)?;
+    Ok(with_keys(alloc, origin, items, whole)?)
 }
 
 /// An image, or its first fault: that of its name, and then those of its items in order.
@@ -332,5 +327,5 @@ pub(crate) fn image_of(alloc: Global, top: &TopSection) -> Result<ImageSection, 
     ensures answers { Answers (image_of top.now) result }
     ensures within { IfOk result IsImageWithin }
 {
-    read_as(alloc, origin_of(top.sections.as_slice()), top)
+    read_as(alloc, origin_of(top.items.as_slice()), top)
 }

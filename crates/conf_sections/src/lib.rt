@@ -13,6 +13,3 @@ pub use conf_keys::{
 pub use conf_walk::Vars;
 pub use fault::ConfFault;
 pub use reading::read_conf;
-
-#[cfg(test)]
-mod tests;

@@ -1,19 +1,22 @@
 -- What a tree makes of an outline is what it says.
 use Rattle.std.proofs.Common.{◌≡◌, ℕ, ◌+◌, ◌-◌, false, nat_eq, List, [], ◌∷◌, ◌++◌, Ok, if◌then◌else◌, arith, refl, ap, sym, ◌∙◌, append_assoc, append-nil}
 use Rattle.std.proofs.lemmas.Bool.Decides.{nat_tests}
-use Rattle.conf_items.specs.Outline.{closed, marker, opened, with_inner_item, with_section, with_setting}
+use Rattle.conf_items.specs.Outline.{closed, opened, with_inner_item, with_item, with_setting}
 use Rattle.conf_items.specs.declared.items.Head.{Head}
-use Rattle.conf_items.specs.declared.items.Setting.{Setting}
 use Rattle.conf_items.specs.declared.outline.OpenSections.TheVariants.{Nothing, Outer, Inner}
+use Rattle.conf_items.specs.declared.outline.InnerItem.{InnerItem}
+use Rattle.conf_items.specs.declared.outline.InnerItem.TheVariants as inside_item
 use Rattle.conf_items.specs.declared.outline.Outline.{Outline}
+use Rattle.conf_items.specs.declared.outline.SectionItem.{SectionItem}
+use Rattle.conf_items.specs.declared.outline.SectionItem.TheVariants as section_item
 use Rattle.conf_items.specs.declared.outline.Subsection.{Subsection}
 use Rattle.conf_items.specs.declared.outline.TopItem.{TopItem}
 use Rattle.conf_items.specs.declared.outline.TopItem.TheVariants as top
 use Rattle.conf_items.specs.declared.outline.TopSection.{TopSection}
 use Rattle.conf_grammar.specs.Trees.{Items, NoItem, IncludeThen, OptionThen, SectionThen}
-use Rattle.conf_walk.specs.Walk.{◌>>=◌}
-use Rattle.conf_walk.specs.declared.texts.Reading.{Reading}
-use Rattle.conf_trees.specs.Said.{HasNoInclude, items_of, settings_of, subsections_of}
+use Rattle.base_fields.specs.Results.{◌>>=◌}
+use Rattle.conf_texts.specs.declared.texts.Reading.{Reading}
+use Rattle.conf_trees.specs.Said.{HasNoInclude, inner_items, items_of, section_items}
 use Rattle.conf_trees.specs.Walked.{Walk, tree_walked, with_outline}
 use Rattle.conf_trees.specs.Laws.{AddsItems}
 
@@ -43,13 +46,13 @@ deep : (t : Items) (items : List TopItem) (outer : TopSection) (inner : Subsecti
 deep NoItem items outer inner deeper e = refl
 deep (IncludeThen name rest) items outer inner deeper e = deep rest items outer inner deeper e
 deep (OptionThen setting rest) items outer inner deeper e =
-    ap (λ b. outlined rest (inner_at items outer (if b then with_inner_item inner setting else inner) deeper)) e ∙ deep rest items outer inner deeper e
+    ap (λ b. outlined rest (inner_at items outer (if b then with_inner_item inner (inside_item.Key setting) else inner) deeper)) e ∙ deep rest items outer inner deeper e
 deep (SectionThen head inside rest) items outer inner deeper e =
     let more : nat_eq (deeper + 1) 0 ≡ false = grind (arith, nat_tests) in
     let back : deeper + 1 - 1 ≡ deeper = omega arith in
-    let first : opened (inner_at items outer inner deeper) head ≡ inner_at items outer inner (deeper + 1) = ap (λ b. inner_at items outer (if b then with_inner_item inner (marker head) else inner) (deeper + 1)) e in
+    let first : opened (inner_at items outer inner deeper) head ≡ inner_at items outer inner (deeper + 1) = ap (λ b. inner_at items outer (if b then with_inner_item inner (inside_item.Section head) else inner) (deeper + 1)) e in
     let ended : closed (inner_at items outer inner (deeper + 1)) ≡ inner_at items outer inner deeper =
-    ap (λ b. record { items = items; inside = if b then Outer (with_section outer inner) else Inner outer inner (deeper + 1 - 1) }) more ∙ ap (inner_at items outer inner) back in
+    ap (λ b. record { items = items; inside = if b then Outer (with_item outer (section_item.Section inner)) else Inner outer inner (deeper + 1 - 1) }) more ∙ ap (inner_at items outer inner) back in
     ap (λ o. outlined rest (closed (outlined inside o))) first
     ∙ ap (λ o. outlined rest (closed o)) (deep inside items outer inner (deeper + 1) more)
     ∙ ap (outlined rest) ended
@@ -57,39 +60,37 @@ deep (SectionThen head inside rest) items outer inner deeper e =
 
 -- ---- in a section in another
 
-abbrev with_list : Subsection → List Setting → Subsection
-with_list inner settings = record inner { settings = settings }
+abbrev with_list : Subsection → List InnerItem → Subsection
+with_list inner items = record inner { items = items }
 
-in_inner : (t : Items) (items : List TopItem) (outer : TopSection) (inner : Subsection) → outlined t (inner_at items outer inner 0) ≡ inner_at items outer (with_list inner (inner.settings ++ settings_of t)) 0
-in_inner NoItem items outer inner = ap (λ xs. inner_at items outer (with_list inner xs) 0) (sym (append-nil inner.settings))
+in_inner : (t : Items) (items : List TopItem) (outer : TopSection) (inner : Subsection) → outlined t (inner_at items outer inner 0) ≡ inner_at items outer (with_list inner (inner.items ++ inner_items t)) 0
+in_inner NoItem items outer inner = ap (λ xs. inner_at items outer (with_list inner xs) 0) (sym (append-nil inner.items))
 in_inner (IncludeThen name rest) items outer inner = in_inner rest items outer inner
 in_inner (OptionThen setting rest) items outer inner =
-    in_inner rest items outer (with_inner_item inner setting)
-    ∙ ap (λ xs. inner_at items outer (with_list inner xs) 0) (append_assoc inner.settings (setting ∷ []) (settings_of rest))
+    in_inner rest items outer (with_inner_item inner (inside_item.Key setting))
+    ∙ ap (λ xs. inner_at items outer (with_list inner xs) 0) (append_assoc inner.items (inside_item.Key setting ∷ []) (inner_items rest))
 in_inner (SectionThen head inside rest) items outer inner =
-    ap (λ o. outlined rest (closed o)) (deep inside items outer (with_inner_item inner (marker head)) 1 refl)
-    ∙ in_inner rest items outer (with_inner_item inner (marker head))
-    ∙ ap (λ xs. inner_at items outer (with_list inner xs) 0) (append_assoc inner.settings (marker head ∷ []) (settings_of rest))
+    ap (λ o. outlined rest (closed o)) (deep inside items outer (with_inner_item inner (inside_item.Section head)) 1 refl)
+    ∙ in_inner rest items outer (with_inner_item inner (inside_item.Section head))
+    ∙ ap (λ xs. inner_at items outer (with_list inner xs) 0) (append_assoc inner.items (inside_item.Section head ∷ []) (inner_items rest))
 
 -- ---- in a section at the top
 
-abbrev outer_at : List TopItem → Head → List Setting → List Subsection → Outline
-outer_at items head settings sections = record { items = items; inside = Outer (record { head = head; settings = settings; sections = sections }) }
+abbrev outer_at : List TopItem → Head → List SectionItem → Outline
+outer_at items head within = record { items = items; inside = Outer (record { head = head; items = within }) }
 
-in_outer : (t : Items) (items : List TopItem) (head : Head) (settings : List Setting) (sections : List Subsection) → outlined t (outer_at items head settings sections) ≡ outer_at items head (settings ++ settings_of t) (sections ++ subsections_of t)
-in_outer NoItem items head settings sections =
-    ap (λ xs. outer_at items head xs sections) (sym (append-nil settings)) ∙ ap (outer_at items head (settings ++ [])) (sym (append-nil sections))
-in_outer (IncludeThen name rest) items head settings sections = in_outer rest items head settings sections
-in_outer (OptionThen setting rest) items head settings sections =
-    in_outer rest items head (settings ++ setting ∷ []) sections
-    ∙ ap (λ xs. outer_at items head xs (sections ++ subsections_of rest)) (append_assoc settings (setting ∷ []) (settings_of rest))
-in_outer (SectionThen other inside rest) items head settings sections =
-    let outer : TopSection = record { head = head; settings = settings ++ marker other ∷ []; sections = sections } in
-    let inner : Subsection = record { head = other; settings = settings_of inside } in
-    ap (λ o. outlined rest (closed o)) (in_inner inside items outer (record { head = other; settings = [] }))
-    ∙ in_outer rest items head (settings ++ marker other ∷ []) (sections ++ inner ∷ [])
-    ∙ ap (λ xs. outer_at items head xs ((sections ++ inner ∷ []) ++ subsections_of rest)) (append_assoc settings (marker other ∷ []) (settings_of rest))
-    ∙ ap (outer_at items head (settings ++ (marker other ∷ settings_of rest))) (append_assoc sections (inner ∷ []) (subsections_of rest))
+in_outer : (t : Items) (items : List TopItem) (head : Head) (within : List SectionItem) → outlined t (outer_at items head within) ≡ outer_at items head (within ++ section_items t)
+in_outer NoItem items head within = ap (outer_at items head) (sym (append-nil within))
+in_outer (IncludeThen name rest) items head within = in_outer rest items head within
+in_outer (OptionThen setting rest) items head within =
+    in_outer rest items head (within ++ section_item.Key setting ∷ [])
+    ∙ ap (outer_at items head) (append_assoc within (section_item.Key setting ∷ []) (section_items rest))
+in_outer (SectionThen other inside rest) items head within =
+    let outer : TopSection = record { head = head; items = within } in
+    let inner : Subsection = record { head = other; items = inner_items inside } in
+    ap (λ o. outlined rest (closed o)) (in_inner inside items outer (record { head = other; items = [] }))
+    ∙ in_outer rest items head (within ++ section_item.Section inner ∷ [])
+    ∙ ap (outer_at items head) (append_assoc within (section_item.Section inner ∷ []) (section_items rest))
 
 -- ---- at the top
 
@@ -101,8 +102,8 @@ at_top NoItem items = ap top_at (sym (append-nil items))
 at_top (IncludeThen name rest) items = at_top rest items
 at_top (OptionThen setting rest) items = at_top rest (items ++ top.Setting setting ∷ []) ∙ ap top_at (append_assoc items (top.Setting setting ∷ []) (items_of rest))
 at_top (SectionThen head inside rest) items =
-    let section : TopSection = record { head = head; settings = settings_of inside; sections = subsections_of inside } in
-    ap (λ o. outlined rest (closed o)) (in_outer inside items head [] [])
+    let section : TopSection = record { head = head; items = section_items inside } in
+    ap (λ o. outlined rest (closed o)) (in_outer inside items head [])
     ∙ at_top rest (items ++ top.Section section ∷ [])
     ∙ ap top_at (append_assoc items (top.Section section ∷ []) (items_of rest))
 

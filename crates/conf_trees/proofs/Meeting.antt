@@ -12,8 +12,8 @@ use Rattle.conf_grammar.proofs.Standing.{begins_no_tree, text_reads}
 use Rattle.conf_grammar.proofs.TreesFound.{begins_tree, reads_tree}
 use Rattle.conf_grammar.specs.Trees.{Items, Spells}
 use Rattle.conf_grammar.specs.Laws.{Ran, is_of, outputs_of, run}
-use Rattle.conf_walk.specs.Walk.{is_include, shaped, spelling_of, with_value, word_of}
-use Rattle.conf_walk.specs.declared.texts.Text.{Text}
+use Rattle.conf_texts.specs.Steps.{is_include, shaped, spelling_of, with_value, word_of}
+use Rattle.conf_texts.specs.declared.texts.Text.{Text}
 use Rattle.conf_trees.specs.Laws.{MeetsOne}
 use Rattle.conf_trees.specs.Met.{BeginsText, GoesOn, Meets, Spelled, EndsEarly, CannotStand, HasNoValue, Stops}
 use Rattle.conf_trees.specs.Walked.{HasLexeme, LexemesOf}

@@ -17,11 +17,13 @@ use Rattle.conf_grammar.proofs.Standing.{begins_no_tree}
 use Rattle.conf_grammar.proofs.TreesFound.{reads_tree}
 use Rattle.conf_grammar.specs.Trees.{Items, Spells}
 use Rattle.conf_grammar.specs.Laws.{Ran, is_of, run}
-use Rattle.conf_walk.specs.Walk.{◌>>=◌, or_else, refused_by, spelling_of, taken, tokens_walked, when, with_value}
-use Rattle.conf_walk.specs.declared.fault.WalkFault.{WalkFault}
-use Rattle.conf_walk.specs.declared.fault.WalkFault.TheVariants.{BadText, Unset}
-use Rattle.conf_walk.specs.declared.texts.Reading.{Reading}
-use Rattle.conf_walk.specs.declared.texts.Text.{Text}
+use Rattle.base_fields.specs.Results.{◌>>=◌, or_else, refused_by, when}
+use Rattle.conf_texts.specs.Steps.{spelling_of, taken, with_value}
+use Rattle.conf_walk.specs.Walk.{tokens_walked}
+use Rattle.conf_texts.specs.declared.fault.WalkFault.{WalkFault}
+use Rattle.conf_texts.specs.declared.fault.WalkFault.TheVariants.{BadText, Unset}
+use Rattle.conf_texts.specs.declared.texts.Reading.{Reading}
+use Rattle.conf_texts.specs.declared.texts.Text.{Text}
 use Rattle.conf_trees.specs.Walked.{LexemesOf, Walk, with_outline}
 use Rattle.conf_trees.specs.Laws.{RefusesEnd, RefusesToken, RefusesUnset}
 use Rattle.conf_trees.specs.Met.{AlwaysReads, BeginsText, GoesOn, Reaches, Stops}

@@ -7,8 +7,8 @@ use Rattle.conf_lexer.specs.declared.tokens.Token.{Token}
 use Rattle.conf_items.specs.declared.grammar.Lexeme.{Lexeme}
 use Rattle.conf_grammar.proofs.OneTree.{one_tree}
 use Rattle.conf_grammar.specs.Trees.{Items, NoItem, IncludeThen, OptionThen, SectionThen}
-use Rattle.conf_walk.specs.Walk.{with_value}
-use Rattle.conf_walk.specs.declared.texts.Text.{Text}
+use Rattle.conf_texts.specs.Steps.{with_value}
+use Rattle.conf_texts.specs.declared.texts.Text.{Text}
 use Rattle.conf_trees.specs.Laws.{SaysOnce}
 use Rattle.conf_trees.specs.Spliced.{IsTextOf, IsTreeOf, Says, Spliced, joined}
 use Rattle.conf_trees.specs.Walked.{HasLexeme, LexemesOf}

@@ -4,14 +4,15 @@ use Rattle.outside.specs.Files.{Tree}
 use Rattle.conf_items.specs.Outline.{closed, opened, with_setting}
 use Rattle.conf_items.specs.declared.outline.Outline.{Outline}
 use Rattle.conf_grammar.specs.Trees.{Items, NoItem, IncludeThen, OptionThen, SectionThen}
-use Rattle.conf_walk.specs.Walk.{◌>>=◌}
-use Rattle.conf_walk.specs.declared.fault.WalkFault.{WalkFault}
-use Rattle.conf_walk.specs.declared.texts.Reading.{Reading}
+use Rattle.base_fields.specs.Results.{◌>>=◌}
+use Rattle.conf_texts.specs.declared.fault.WalkFault.{WalkFault}
+use Rattle.conf_texts.specs.declared.texts.Reading.{Reading}
 use Rattle.conf_trees.specs.Said.{HasNoInclude}
 use Rattle.conf_trees.specs.Spliced.{Spliced, joined, size_of}
 use Rattle.conf_trees.specs.Walked.{Walk, tree_walked, with_outline}
 use Rattle.conf_trees.proofs.ItemsSaid.{outlined}
-use Rattle.conf_trees.proofs.TreesFound.{bind_ok, ok_same}
+use Rattle.base_fields.proofs.Binds.{bind_ok}
+use Rattle.conf_trees.proofs.TreesFound.{ok_same}
 
 outlined_joined : (t u : Items) (outline : Outline) → outlined (joined t u) outline ≡ outlined u (outlined t outline)
 outlined_joined NoItem u outline = refl

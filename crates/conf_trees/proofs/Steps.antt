@@ -14,10 +14,11 @@ use Rattle.conf_items.specs.declared.grammar.Move.{Move}
 use Rattle.conf_items.specs.declared.grammar.Next.{Next}
 use Rattle.conf_items.specs.declared.grammar.Next.TheVariants as next
 use Rattle.conf_items.specs.declared.grammar.Parser.{Parser}
-use Rattle.conf_walk.specs.Walk.{◌>>=◌, is_include, or_else, refused_by, shaped, spelling_of, stepped, when, with_value, word_of}
-use Rattle.conf_walk.specs.declared.fault.WalkFault.{WalkFault}
-use Rattle.conf_walk.specs.declared.fault.WalkFault.TheVariants.{Unset}
-use Rattle.conf_walk.specs.declared.texts.Text.{Text}
+use Rattle.base_fields.specs.Results.{◌>>=◌, or_else, refused_by, when}
+use Rattle.conf_texts.specs.Steps.{is_include, shaped, spelling_of, stepped, with_value, word_of}
+use Rattle.conf_texts.specs.declared.fault.WalkFault.{WalkFault}
+use Rattle.conf_texts.specs.declared.fault.WalkFault.TheVariants.{Unset}
+use Rattle.conf_texts.specs.declared.texts.Text.{Text}
 use Rattle.conf_trees.specs.Walked.{HasLexeme}
 
 bare_moves : (depth : ℕ) (next : Next) (word : Word) (include : Bool) → is_some (moved_from depth next (Bare word include)) ≡ is_some (moved_from depth next (Bare some_word false))

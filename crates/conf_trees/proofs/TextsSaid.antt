@@ -11,18 +11,21 @@ use Rattle.conf_items.specs.Outline.{closed, opened, with_setting}
 use Rattle.conf_items.specs.declared.outline.OpenSections.TheVariants.{Nothing}
 use Rattle.conf_items.specs.declared.outline.Outline.{Outline}
 use Rattle.conf_grammar.specs.Trees.{Items, NoItem, IncludeThen, OptionThen, SectionThen}
-use Rattle.conf_walk.specs.Walk.{◌>>=◌, in_limit, most_bytes, nestings, nothing_read, or_else, refused_by, text_read, text_walked, texts_in, tokens_walked, with_text}
-use Rattle.conf_walk.specs.declared.fault.WalkFault.{WalkFault}
-use Rattle.conf_walk.specs.declared.fault.WalkFault.TheVariants.{BadText, Missing}
-use Rattle.conf_walk.specs.declared.texts.Reading.{Reading}
-use Rattle.conf_walk.specs.declared.texts.Text.{Text}
+use Rattle.base_fields.specs.Results.{◌>>=◌, or_else, refused_by}
+use Rattle.conf_texts.specs.Texts.{in_limit, most_bytes, nothing_read, text_read, with_text}
+use Rattle.conf_walk.specs.Walk.{nestings, text_walked, texts_in, tokens_walked}
+use Rattle.conf_texts.specs.declared.fault.WalkFault.{WalkFault}
+use Rattle.conf_texts.specs.declared.fault.WalkFault.TheVariants.{BadText, Missing}
+use Rattle.conf_texts.specs.declared.texts.Reading.{Reading}
+use Rattle.conf_texts.specs.declared.texts.Text.{Text}
 use Rattle.conf_trees.specs.Laws.{SaidTexts, TextStands, TextsSay, TreeStands}
 use Rattle.conf_trees.specs.Said.{HasNoInclude}
 use Rattle.conf_trees.specs.Spliced.{IsTextOf, Outlines, Says, Spliced, size_of}
 use Rattle.conf_trees.specs.Walked.{Walk, tree_walked, with_outline}
 use Rattle.conf_trees.proofs.ItemsSaid.{at_top, outlined, plain_walked}
 use Rattle.conf_trees.proofs.Splicing.{read_of, spliced_grows, spliced_read, spliced_said}
-use Rattle.conf_trees.proofs.TreesFound.{bind_ok, has_tree, ok_same, or_else_ok, refused_ok, when_ok}
+use Rattle.base_fields.proofs.Binds.{bind_ok, or_else_ok, refused_ok, when_ok}
+use Rattle.conf_trees.proofs.TreesFound.{has_tree, ok_same}
 use Rattle.conf_trees.proofs.TreesWalked.{walks_tree}
 
 -- ---- what was read is said

@@ -11,11 +11,14 @@ use Rattle.conf_items.specs.declared.grammar.Output.TheVariants as output
 use Rattle.conf_items.specs.declared.grammar.Parser.{Parser}
 use Rattle.conf_grammar.proofs.TreesFound.{reads_tree}
 use Rattle.conf_grammar.specs.Laws.{Ran, behind_move, kept, run}
-use Rattle.conf_walk.specs.Walk.{◌>>=◌, or_else, refused_by, spelling_of, stepped, taken, tokens_walked, when, with_value}
-use Rattle.conf_walk.specs.declared.fault.WalkFault.{WalkFault}
-use Rattle.conf_walk.specs.declared.fault.WalkFault.TheVariants.{BadText, Unset}
-use Rattle.conf_walk.specs.declared.texts.Reading.{Reading}
-use Rattle.conf_walk.specs.declared.texts.Text.{Text}
+use Rattle.base_fields.proofs.Binds.{bind_ok, or_else_ok, refused_ok, when_ok}
+use Rattle.base_fields.specs.Results.{◌>>=◌, or_else, refused_by, when}
+use Rattle.conf_texts.specs.Steps.{spelling_of, stepped, taken, with_value}
+use Rattle.conf_walk.specs.Walk.{tokens_walked}
+use Rattle.conf_texts.specs.declared.fault.WalkFault.{WalkFault}
+use Rattle.conf_texts.specs.declared.fault.WalkFault.TheVariants.{BadText, Unset}
+use Rattle.conf_texts.specs.declared.texts.Reading.{Reading}
+use Rattle.conf_texts.specs.declared.texts.Text.{Text}
 use Rattle.conf_trees.specs.Walked.{HasLexeme, LexemesOf, Walk}
 use Rattle.conf_trees.specs.Laws.{HasTree}
 
@@ -26,22 +29,6 @@ accepted a = Ok a
 
 pub ok_same : {A : Type 0} (a b : A) → accepted a ≡ accepted b → a ≡ b
 ok_same a b e = cc
-
-pub bind_ok : {A B E : Type 0} (x : Result A E) (f : A → Result B E) (b : B) → (x >>= f) ≡ Ok b → (a : A) × (x ≡ Ok a) × (f a ≡ Ok b)
-bind_ok (Ok a) f b e = (a, refl, e)
-bind_ok (Err r) f b e = absurd (cc)
-
-pub when_ok : {A E : Type 0} (passes : Bool) (x y : A) (r : E) → when passes x r ≡ Ok y → (passes ≡ true) × (x ≡ y)
-when_ok true x y r e = (refl, cc)
-when_ok false x y r e = absurd (cc)
-
-pub or_else_ok : {A E : Type 0} (x : Option A) (y : A) (r : E) → or_else x r ≡ Ok y → x ≡ Some y
-or_else_ok None y r e = absurd (cc)
-or_else_ok (Some x) y r e = let same : x ≡ y = cc in ap (λ z. Some z) same
-
-pub refused_ok : {A D E : Type 0} (f : D → E) (x : Result A D) (y : A) → refused_by f x ≡ Ok y → x ≡ Ok y
-refused_ok f (Ok x) y e = let same : x ≡ y = cc in ap (λ z. Ok z) same
-refused_ok f (Err r) y e = absurd (cc)
 
 -- ---- one token, and then all
 

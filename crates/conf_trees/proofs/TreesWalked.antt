@@ -12,21 +12,16 @@ use Rattle.conf_items.specs.declared.grammar.Parser.{Parser}
 use Rattle.conf_grammar.proofs.Standing.{text_reads}
 use Rattle.conf_grammar.specs.Trees.{Items, NoItem, IncludeThen, OptionThen, SectionThen}
 use Rattle.conf_grammar.specs.Laws.{Ran, behind_move, kept, outputs_of, run}
-use Rattle.conf_walk.specs.Walk.{◌>>=◌, taken, tokens_walked}
-use Rattle.conf_walk.specs.declared.fault.WalkFault.{WalkFault}
-use Rattle.conf_walk.specs.declared.texts.Reading.{Reading}
-use Rattle.conf_walk.specs.declared.texts.Text.{Text}
+use Rattle.base_fields.proofs.Binds.{bind-assoc, bind-same}
+use Rattle.base_fields.specs.Results.{◌>>=◌}
+use Rattle.conf_texts.specs.Steps.{taken}
+use Rattle.conf_walk.specs.Walk.{tokens_walked}
+use Rattle.conf_texts.specs.declared.fault.WalkFault.{WalkFault}
+use Rattle.conf_texts.specs.declared.texts.Reading.{Reading}
+use Rattle.conf_texts.specs.declared.texts.Text.{Text}
 use Rattle.conf_trees.specs.Walked.{LexemesOf, Walk, tree_walked, with_outline}
 use Rattle.conf_trees.specs.Laws.{WalksTree}
 use Rattle.conf_trees.proofs.Steps.{leads}
-
-pub bind_same : {A B E : Type 0} (x : Result A E) (f g : A → Result B E) → ((a : A) → f a ≡ g a) → (x >>= f) ≡ (x >>= g)
-bind_same (Ok a) f g same = same a
-bind_same (Err e) f g same = refl
-
-pub bind_assoc : {A B D E : Type 0} (x : Result A E) (f : A → Result B E) (g : B → Result D E) → ((x >>= f) >>= g) ≡ (x >>= λ a. f a >>= g)
-bind_assoc (Ok a) f g = refl
-bind_assoc (Err e) f g = refl
 
 -- what was made whole, taken one after another
 abbrev pub outputs_walked : Walk → List Output → Reading → Result Reading WalkFault
@@ -38,19 +33,19 @@ outputs_walked included (o ∷ os) reading = taken included o reading >>= output
 outputs_joined : (included : Walk) (os more : List Output) (reading : Reading) → outputs_walked included (os ++ more) reading ≡ (outputs_walked included os reading >>= outputs_walked included more)
 outputs_joined included [] more reading = refl
 outputs_joined included (o ∷ os) more reading =
-    bind_same (taken included o reading) (outputs_walked included (os ++ more)) (λ r. outputs_walked included os r >>= outputs_walked included more) (λ r. outputs_joined included os more r)
-    ∙ sym (bind_assoc (taken included o reading) (outputs_walked included os) (outputs_walked included more))
+    bind-same (taken included o reading) (outputs_walked included (os ++ more)) (λ r. outputs_walked included os r >>= outputs_walked included more) (λ r. outputs_joined included os more r)
+    ∙ sym (bind-assoc (taken included o reading) (outputs_walked included os) (outputs_walked included more))
 
 tree_outputs : (included : Walk) (t : Items) (reading : Reading) → outputs_walked included (outputs_of t) reading ≡ tree_walked included t reading
 tree_outputs included NoItem reading = refl
-tree_outputs included (IncludeThen name rest) reading = bind_same (included name.text reading) (outputs_walked included (outputs_of rest)) (tree_walked included rest) (λ r. tree_outputs included rest r)
+tree_outputs included (IncludeThen name rest) reading = bind-same (included name.text reading) (outputs_walked included (outputs_of rest)) (tree_walked included rest) (λ r. tree_outputs included rest r)
 tree_outputs included (OptionThen setting rest) reading = tree_outputs included rest (with_outline reading (with_setting reading.outline setting))
 tree_outputs included (SectionThen head inside rest) reading =
     let within : Reading = with_outline reading (opened reading.outline head) in
     let behind : Reading → Result Reading WalkFault = λ r. tree_walked included rest (with_outline r (closed r.outline)) in
     outputs_joined included (outputs_of inside) (output.Close ∷ outputs_of rest) within
     ∙ ap (λ w. w >>= outputs_walked included (output.Close ∷ outputs_of rest)) (tree_outputs included inside within)
-    ∙ bind_same (tree_walked included inside within) (outputs_walked included (output.Close ∷ outputs_of rest)) behind (λ r. tree_outputs included rest (with_outline r (closed r.outline)))
+    ∙ bind-same (tree_walked included inside within) (outputs_walked included (output.Close ∷ outputs_of rest)) behind (λ r. tree_outputs included rest (with_outline r (closed r.outline)))
 
 -- ---- tokens one after another
 
@@ -85,7 +80,7 @@ tokens_ran included vars text (token ∷ tokens) (l ∷ ls) parser reading ran h
     let first = apart (moved parser l) (λ p. run p ls) ran e in
     let last : may_end first.2.parser ≡ true = ap may_end (kept_parser first.0.output first.2 ran first.4) ∙ ends in
     ap (λ s. s >>= λ made. taken included made.output reading >>= λ after. tokens_walked included vars text tokens made.parser after) (leads vars text parser token l first.0 h.0 first.1)
-    ∙ bind_same (taken included first.0.output reading) (λ after. tokens_walked included vars text tokens first.0.parser after) (outputs_walked included first.2.outputs) (λ after. tokens_ran included vars text tokens ls first.0.parser after first.2 h.1 first.3 last)
+    ∙ bind-same (taken included first.0.output reading) (λ after. tokens_walked included vars text tokens first.0.parser after) (outputs_walked included first.2.outputs) (λ after. tokens_ran included vars text tokens ls first.0.parser after first.2 h.1 first.3 last)
     ∙ kept_walked included first.0.output first.2 ran reading first.4
 tokens_ran included vars text tokens ls parser reading ran h e ends = absurd h
 

@@ -8,10 +8,12 @@ use Rattle.conf_items.specs.Grammar.{start}
 use Rattle.conf_items.specs.declared.grammar.Lexeme.{Lexeme}
 use Rattle.conf_items.specs.declared.outline.OpenSections.TheVariants.{Nothing}
 use Rattle.conf_grammar.specs.Trees.{Items, Spells}
-use Rattle.conf_walk.specs.Walk.{most_bytes, nestings, spelling_of, text_walked, texts_of, tokens_walked}
-use Rattle.conf_walk.specs.declared.fault.WalkFault.TheVariants.{BadText, Unset}
-use Rattle.conf_walk.specs.declared.texts.Reading.{Reading}
-use Rattle.conf_walk.specs.declared.texts.Text.{Text}
+use Rattle.conf_texts.specs.Steps.{spelling_of}
+use Rattle.conf_texts.specs.Texts.{most_bytes}
+use Rattle.conf_walk.specs.Walk.{nestings, text_walked, texts_of, tokens_walked}
+use Rattle.conf_texts.specs.declared.fault.WalkFault.TheVariants.{BadText, Unset}
+use Rattle.conf_texts.specs.declared.texts.Reading.{Reading}
+use Rattle.conf_texts.specs.declared.texts.Text.{Text}
 use Rattle.conf_walk.specs.declared.walking.Texts.{Texts}
 use Rattle.conf_trees.specs.Met.{AlwaysReads, BeginsText, GoesOn, Meets, Reaches, Stops}
 use Rattle.conf_trees.specs.Said.{HasNoInclude, items_of}

@@ -7,9 +7,9 @@ use Rattle.conf_words.specs.Values.{value_of}
 use Rattle.conf_items.specs.declared.grammar.Lexeme.{Lexeme}
 use Rattle.conf_grammar.specs.Trees.{Items, Spells}
 use Rattle.conf_grammar.specs.Laws.{is_of}
-use Rattle.conf_walk.specs.Walk.{spelling_of}
-use Rattle.conf_walk.specs.declared.texts.Reading.{Reading}
-use Rattle.conf_walk.specs.declared.texts.Text.{Text}
+use Rattle.conf_texts.specs.Steps.{spelling_of}
+use Rattle.conf_texts.specs.declared.texts.Reading.{Reading}
+use Rattle.conf_texts.specs.declared.texts.Text.{Text}
 use Rattle.conf_trees.specs.Walked.{LexemesOf, Walk}
 
 -- each text that is included is read

@@ -6,8 +6,8 @@ use Rattle.outside.specs.Files.{Tree, bytes_of}
 use Rattle.conf_lexer.specs.Text.{tokens_of}
 use Rattle.conf_items.specs.declared.grammar.Lexeme.{Lexeme}
 use Rattle.conf_grammar.specs.Trees.{Items, NoItem, IncludeThen, OptionThen, SectionThen, Spells}
-use Rattle.conf_walk.specs.declared.texts.Reading.{Reading}
-use Rattle.conf_walk.specs.declared.texts.Text.{Text}
+use Rattle.conf_texts.specs.declared.texts.Reading.{Reading}
+use Rattle.conf_texts.specs.declared.texts.Text.{Text}
 use Rattle.conf_trees.specs.Said.{HasNoInclude}
 use Rattle.conf_trees.specs.Walked.{LexemesOf, Walk, tree_walked, with_outline}
 

@@ -7,10 +7,11 @@ use Rattle.conf_items.specs.Outline.{closed, opened, with_setting}
 use Rattle.conf_items.specs.declared.grammar.Lexeme.{Lexeme}
 use Rattle.conf_items.specs.declared.outline.Outline.{Outline}
 use Rattle.conf_grammar.specs.Trees.{Items, NoItem, IncludeThen, OptionThen, SectionThen}
-use Rattle.conf_walk.specs.Walk.{◌>>=◌, spelling_of, with_value}
-use Rattle.conf_walk.specs.declared.fault.WalkFault.{WalkFault}
-use Rattle.conf_walk.specs.declared.texts.Reading.{Reading}
-use Rattle.conf_walk.specs.declared.texts.Text.{Text}
+use Rattle.base_fields.specs.Results.{◌>>=◌}
+use Rattle.conf_texts.specs.Steps.{spelling_of, with_value}
+use Rattle.conf_texts.specs.declared.fault.WalkFault.{WalkFault}
+use Rattle.conf_texts.specs.declared.texts.Reading.{Reading}
+use Rattle.conf_texts.specs.declared.texts.Text.{Text}
 
 -- a token's spelling has a value, and with it the token is that lexeme
 abbrev pub HasLexeme : List Pair → Text → Token → Lexeme → Type 0

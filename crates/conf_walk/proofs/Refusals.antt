@@ -1,11 +1,11 @@
 -- A refusal ends what would follow.
 use Rattle.std.proofs.Common.{◌≡◌, Result, ap, subst, sym}
 use Rattle.outside.specs.Counts.{Counts}
-use Rattle.conf_walk.specs.Answers.{HasCause, Refuses}
-use Rattle.conf_walk.specs.Stack.{IsNoFileFault}
-use Rattle.conf_walk.specs.Walk.{◌>>=◌}
-use Rattle.conf_walk.specs.declared.fault.WalkFault.{WalkFault}
-use Rattle.conf_walk.specs.declared.fault.WalkFault.TheVariants.{BadText, Unset, DeepInclude, TooLong, Missing, SourceShort, FileFault, NoMemory}
+use Rattle.conf_texts.specs.Answers.{HasCause, Refuses}
+use Rattle.conf_texts.specs.Answers.{IsNoFileFault}
+use Rattle.base_fields.specs.Results.{◌>>=◌}
+use Rattle.conf_texts.specs.declared.fault.WalkFault.{WalkFault}
+use Rattle.conf_texts.specs.declared.fault.WalkFault.TheVariants.{BadText, Unset, DeepInclude, TooLong, Missing, SourceShort, FileFault, NoMemory}
 
 pub refuses-bind : {A B : Type 0} (wanted : Result A WalkFault) (f : A → Result B WalkFault) (fault : WalkFault) → Refuses wanted fault → Refuses (wanted >>= f) fault
 refuses-bind wanted f (BadText name place) h = ap (λ w. w >>= f) h

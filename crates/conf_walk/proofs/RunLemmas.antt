@@ -5,11 +5,12 @@ use Rattle.std.proofs.lemmas.Option.{slice_get_cases}
 use Rattle.base_fields.specs.declared.names.Pair.{Pair}
 use Rattle.conf_items.specs.Grammar.{may_end}
 use Rattle.conf_walk.specs.Stack.{rest_walked}
-use Rattle.conf_walk.specs.Walk.{tokens_walked, when}
-use Rattle.conf_walk.specs.declared.fault.WalkFault.{WalkFault}
-use Rattle.conf_walk.specs.declared.fault.WalkFault.TheVariants.{BadText}
+use Rattle.base_fields.specs.Results.{when}
+use Rattle.conf_walk.specs.Walk.{tokens_walked}
+use Rattle.conf_texts.specs.declared.fault.WalkFault.{WalkFault}
+use Rattle.conf_texts.specs.declared.fault.WalkFault.TheVariants.{BadText}
 use Rattle.conf_walk.specs.declared.running.OpenText.{OpenText}
-use Rattle.conf_walk.specs.declared.texts.Reading.{Reading}
+use Rattle.conf_texts.specs.declared.texts.Reading.{Reading}
 
 past-end : {X : Type 0} (xs : List X) (i : ℕ) → slice_get xs i ≡ None → length xs ≤ i
 past-end xs i e = elim (slice_get_cases xs i).1 [ inl h ↦ (let some = h.2 in absurd (cc)) | inr h ↦ h.0 ]

@@ -5,10 +5,11 @@ use Rattle.std.proofs.lemmas.List.Elements.{All-append, All-cons, All-nil}
 use Rattle.std.proofs.lemmas.List.Sums.{sum_by-append}
 use Rattle.conf_items.specs.Outline.{deeper_of}
 use Rattle.conf_walk.specs.Stack.{IsOpen, IsStack, Spent, begun, left_of, work_left}
-use Rattle.conf_walk.specs.Walk.{most_bytes, nestings, nothing_read, with_text}
+use Rattle.conf_texts.specs.Texts.{most_bytes, nothing_read, with_text}
+use Rattle.conf_walk.specs.Walk.{nestings}
 use Rattle.conf_walk.specs.declared.running.OpenText.{OpenText}
-use Rattle.conf_walk.specs.declared.texts.Reading.{Reading}
-use Rattle.conf_walk.specs.declared.texts.Text.{Text}
+use Rattle.conf_texts.specs.declared.texts.Reading.{Reading}
+use Rattle.conf_texts.specs.declared.texts.Text.{Text}
 
 All-front : {X : Type 0} (P : X → Type 0) (xs : List X) (x : X) → All P (xs ++ x ∷ []) → All P xs
 All-front P [] x all = All-nil P

@@ -6,13 +6,16 @@ use Rattle.base_fields.specs.declared.names.Pair.{Pair}
 use Rattle.conf_items.specs.declared.grammar.Move.{Move}
 use Rattle.conf_items.specs.declared.grammar.Parser.{Parser}
 use Rattle.conf_lexer.specs.declared.tokens.Token.{Token}
-use Rattle.conf_walk.specs.Answers.{Refuses}
-use Rattle.conf_walk.specs.Stack.{met, rest_walked}
-use Rattle.conf_walk.specs.Walk.{◌>>=◌, stepped, taken, tokens_walked}
-use Rattle.conf_walk.specs.declared.fault.WalkFault.{WalkFault}
+use Rattle.conf_texts.specs.Answers.{Refuses}
+use Rattle.conf_texts.specs.Steps.{met}
+use Rattle.conf_walk.specs.Stack.{rest_walked}
+use Rattle.base_fields.specs.Results.{◌>>=◌}
+use Rattle.conf_texts.specs.Steps.{stepped, taken}
+use Rattle.conf_walk.specs.Walk.{tokens_walked}
+use Rattle.conf_texts.specs.declared.fault.WalkFault.{WalkFault}
 use Rattle.conf_walk.specs.declared.running.OpenText.{OpenText}
-use Rattle.conf_walk.specs.declared.steps.Taken.{Taken}
-use Rattle.conf_walk.specs.declared.texts.Reading.{Reading}
+use Rattle.conf_texts.specs.declared.steps.Taken.{Taken}
+use Rattle.conf_texts.specs.declared.texts.Reading.{Reading}
 use Rattle.conf_walk.proofs.Refusals.{refuses-bind, refuses-along}
 
 pub drop-at : {X : Type 0} (xs : List X) (i : ℕ) (x : X) → slice_get xs i ≡ Some x → drop i xs ≡ x ∷ drop (i + 1) xs

@@ -3,27 +3,18 @@ use Rattle.std.proofs.Common.{◌≡◌, ℕ, ◌+◌, ◌-◌, ◌<◌, ◌≤�
 use Rattle.base_fields.specs.declared.names.Pair.{Pair}
 use Rattle.outside.specs.Files.{Tree}
 use Rattle.conf_items.specs.Grammar.{start}
-use Rattle.conf_walk.specs.Answers.{Refuses}
+use Rattle.conf_texts.specs.Answers.{Refuses}
 use Rattle.conf_walk.specs.Stack.{begun, rest_walked, resumed, stack_walked, then_walked}
-use Rattle.conf_walk.specs.Walk.{◌>>=◌, nestings, nothing_read, text_read, text_walked, texts_in, texts_of, tokens_walked, with_text}
-use Rattle.conf_walk.specs.declared.fault.WalkFault.{WalkFault}
-use Rattle.conf_walk.specs.declared.fault.WalkFault.TheVariants.{DeepInclude}
+use Rattle.base_fields.proofs.Binds.{bind-assoc, bind-ok, bind-same}
+use Rattle.base_fields.specs.Results.{◌>>=◌}
+use Rattle.conf_texts.specs.Texts.{nothing_read, text_read, with_text}
+use Rattle.conf_walk.specs.Walk.{nestings, text_walked, texts_in, texts_of, tokens_walked}
+use Rattle.conf_texts.specs.declared.fault.WalkFault.{WalkFault}
+use Rattle.conf_texts.specs.declared.fault.WalkFault.TheVariants.{DeepInclude}
 use Rattle.conf_walk.specs.declared.running.OpenText.{OpenText}
-use Rattle.conf_walk.specs.declared.texts.Reading.{Reading}
-use Rattle.conf_walk.specs.declared.texts.Text.{Text}
+use Rattle.conf_texts.specs.declared.texts.Reading.{Reading}
+use Rattle.conf_texts.specs.declared.texts.Text.{Text}
 use Rattle.conf_walk.proofs.Refusals.{refuses-along, refuses-bind}
-
-bind-ok : {A E : Type 0} (x : Result A E) → (x >>= λ a. Ok a) ≡ x
-bind-ok (Ok a) = refl
-bind-ok (Err e) = refl
-
-bind-assoc : {A B D E : Type 0} (x : Result A E) (f : A → Result B E) (g : B → Result D E) → ((x >>= f) >>= g) ≡ (x >>= λ a. f a >>= g)
-bind-assoc (Ok a) f g = refl
-bind-assoc (Err e) f g = refl
-
-bind-same : {A B E : Type 0} (x : Result A E) (f g : A → Result B E) → ((a : A) → f a ≡ g a) → (x >>= f) ≡ (x >>= g)
-bind-same (Ok a) f g same = same a
-bind-same (Err e) f g same = refl
 
 -- ---- the walk of a name
 

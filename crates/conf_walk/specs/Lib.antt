@@ -1,4 +1,3 @@
 -- definitions that contracts cite
 pub mod Walk
-pub mod Answers
 pub mod Stack

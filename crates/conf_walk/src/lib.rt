@@ -2,15 +2,8 @@
 //! variable replaced, as the outline of the sections that they say.
 #![tactic(auto)]
 
-mod fault;
 mod running;
-mod steps;
-mod texts;
 mod walking;
 
-pub use conf_words::Vars;
-pub use fault::WalkFault;
+pub use conf_texts::{Vars, WalkFault};
 pub use walking::{Texts, read_texts};
-
-#[cfg(test)]
-mod tests;

@@ -2,14 +2,14 @@
 ghost use Rattle.std.specs.Prelude.{◌≡◌, ℕ, ◌+◌, ◌≤◌, All, IfErr, IfOk, List, Result, Some, length, slice_get};
 ghost use Rattle.conf_items.specs.Outline.{deeper_of};
 ghost use Rattle.conf_lexer.specs.Standing.{StandsIn};
-ghost use Rattle.conf_walk.specs.Stack.{Goes, IsNoFileFault, IsOpen, Leads, Stops, begun, goes_on, left_of, left_then, rest_walked};
-ghost use Rattle.conf_walk.specs.Walk.{most_bytes};
+ghost use Rattle.conf_texts.specs.Answers.{IsNoFileFault};
+ghost use Rattle.conf_walk.specs.Stack.{Goes, IsOpen, Leads, Stops, begun, goes_on, left_of, left_then, rest_walked};
+ghost use Rattle.conf_texts.specs.Texts.{most_bytes};
 
-use crate::steps::{Taken, step, take};
-use crate::texts::{Reading, Text, bad_text};
 use crate::{Vars, WalkFault};
 use conf_items::{Move, Parser, Word};
 use conf_lexer::Token;
+use conf_texts::{Reading, Taken, Text, bad_text, step, take};
 use std::alloc::Global;
 
 /// A text that is walked.

@@ -1,15 +1,15 @@
 ghost use Rattle.std.specs.Prelude.{◌≡◌, ◌+◌, ◌<◌, ◌≤◌, ◌∷◌, ◌++◌, [], IfErr, IfOk, List, OnOk};
 ghost use Rattle.base_fields.specs.declared.names.Pair.{Pair};
 ghost use Rattle.outside.specs.Counts.{NoneFell};
-ghost use Rattle.conf_walk.specs.Answers.{Answers, HasCause};
+ghost use Rattle.conf_texts.specs.Answers.{Answers, HasCause};
 ghost use Rattle.conf_walk.specs.Stack.{IsStack, Leads, stack_walked, then_walked, work_left};
 ghost use Rattle.conf_walk.specs.Walk.{texts_in, texts_of};
 
 use crate::running::{OpenText, Stop, run_text};
-use crate::texts::{Reading, read_text};
 use crate::{Vars, WalkFault};
 use base_fields::{List, Name, NoMemory};
 use conf_items::{Outline, TopItem};
+use conf_texts::{Reading, read_text};
 use outside::Files;
 use std::alloc::Global;
 

@@ -6,6 +6,3 @@ mod values;
 mod variables;
 
 pub use values::{ValueFault, Vars, value_of};
-
-#[cfg(test)]
-mod tests;

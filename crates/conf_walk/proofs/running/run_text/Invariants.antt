@@ -1,7 +1,7 @@
 use Rattle.std.proofs.Common.{◌≡◌, ℕ, ◌-◌, ◌≤◌, List, Result}
 use Rattle.conf_walk.specs.Stack.{IsOpen, Spent, left_of, rest_walked}
-use Rattle.conf_walk.specs.declared.fault.WalkFault.{WalkFault}
-use Rattle.conf_walk.specs.declared.texts.Reading.{Reading}
+use Rattle.conf_texts.specs.declared.fault.WalkFault.{WalkFault}
+use Rattle.conf_texts.specs.declared.texts.Reading.{Reading}
 use Rattle.conf_walk.proofs.running.run_text.Given as goal
 
 -- what is left of the text says what the whole of it did

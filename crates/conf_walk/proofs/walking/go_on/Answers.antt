@@ -1,7 +1,8 @@
 use Rattle.std.proofs.Common.{◌≡◌, ◌-◌, [], ◌∷◌, ◌++◌, length, ◌∙◌, ap, subst}
 use Rattle.std.proofs.lemmas.Result.{err_from_is_err_and}
 use Rattle.conf_walk.specs.Stack.{Stops, left_then, rest_walked, stack_walked, then_walked}
-use Rattle.conf_walk.specs.Walk.{◌>>=◌, text_walked}
+use Rattle.base_fields.specs.Results.{◌>>=◌}
+use Rattle.conf_walk.specs.Walk.{text_walked}
 use Rattle.conf_walk.specs.declared.running.Stop.TheVariants.{Includes}
 use Rattle.conf_walk.proofs.Refusals.{refuses-along}
 use Rattle.conf_walk.proofs.StackLemmas.{stack-ended, stack-includes}

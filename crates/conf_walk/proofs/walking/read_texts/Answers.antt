@@ -1,6 +1,7 @@
 use Rattle.std.proofs.lemmas.Result.{err_from_is_err_and}
 use Rattle.conf_walk.specs.Stack.{then_walked}
-use Rattle.conf_walk.specs.Walk.{nestings, nothing_read, text_walked}
+use Rattle.conf_texts.specs.Texts.{nothing_read}
+use Rattle.conf_walk.specs.Walk.{nestings, text_walked}
 use Rattle.conf_walk.proofs.Refusals.{refuses-along}
 use Rattle.conf_walk.proofs.WalkLemmas.{all-refused, first-walked}
 use Rattle.conf_walk.proofs.walking.read_texts.Goals as goal

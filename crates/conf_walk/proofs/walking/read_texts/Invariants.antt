@@ -1,7 +1,8 @@
 use Rattle.std.proofs.Common.{◌≡◌}
 use Rattle.outside.specs.Counts.{NoneFell}
 use Rattle.conf_walk.specs.Stack.{IsStack, stack_walked, work_left}
-use Rattle.conf_walk.specs.Walk.{nestings, nothing_read, text_walked}
+use Rattle.conf_texts.specs.Texts.{nothing_read}
+use Rattle.conf_walk.specs.Walk.{nestings, text_walked}
 use Rattle.conf_walk.proofs.walking.read_texts.Given as goal
 
 -- what is left on the stack says what the whole walk does

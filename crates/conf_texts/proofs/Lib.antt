@@ -1,0 +1,2 @@
+-- lemmas of the crate
+mod TextLemmas

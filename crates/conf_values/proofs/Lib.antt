@@ -1,0 +1,3 @@
+-- lemmas of the crate; the layers above cite Sizes
+pub mod Digits
+pub mod Sizes
