@@ -6,7 +6,7 @@ use Rattle.image_names.proofs.Reading.{drop_read}
 use Rattle.std.specs.String.{string_eq}
 use Rattle.indexmap.specs.IndexSet.{insert_key}
 use Rattle.std.proofs.lemmas.List.Folds.{list_any-append}
-use Rattle.image_names.specs.Images.{HoldSame, holds}
+use Rattle.image_names.specs.Names.{HoldSame, holds}
 use Rattle.std.specs.List.{list_any, position, position_or_len}
 use Rattle.std.proofs.lemmas.List.{at_drop_all, length-map, map-append}
 

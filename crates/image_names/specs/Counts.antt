@@ -8,7 +8,8 @@ use Rattle.conf_keys.specs.declared.conf.Kind.{Kind}
 use Rattle.conf_keys.specs.declared.conf.Kind.TheVariants as kind
 use Rattle.image_names.specs.declared.fault.GraphFault.{GraphFault}
 use Rattle.image_names.specs.declared.fault.GraphFault.TheVariants.{TooMany, NoKind, NoFlash}
-use Rattle.image_names.specs.Images.{counted_parts, holds, only_kind}
+use Rattle.image_names.specs.Images.{counted_parts, only_kind}
+use Rattle.image_names.specs.Names.{holds}
 
 -- the fault of the first in order that has one
 abbrev pub first_fault : {A : Type 0} → (A → Option GraphFault) → List A → Option GraphFault

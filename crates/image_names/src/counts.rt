@@ -1,14 +1,14 @@
 //! Refusals that come from counts, kinds and flash devices.
 ghost use Rattle.std.specs.Prelude.{◌≡◌, ◌≤◌, IfOk, OnOk, length};
 ghost use Rattle.image_names.specs.Counts.{first_fault, flash_fault, has_flash, kind_fault, names_of, no_flash, no_kind, past, too_many};
-ghost use Rattle.image_names.specs.Graph.{Passes};
-ghost use Rattle.image_names.specs.Images.{HoldSame};
+ghost use Rattle.image_names.specs.Stages.{Passes};
+ghost use Rattle.image_names.specs.Names.{HoldSame};
 
 use crate::GraphFault;
 use crate::images::{counted_parts, only_kind};
 use crate::names::Names;
 use base_fields::{Name, NoMemory};
-use conf_sections::{Conf, FlashSection, ImageSection, Kind};
+use conf_keys::{Conf, FlashSection, ImageSection, Kind};
 use std::alloc::Global;
 
 const MOST_IMAGES: usize = 64;

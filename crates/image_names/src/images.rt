@@ -1,7 +1,7 @@
 ghost use Rattle.std.specs.Prelude.{◌≡◌};
 ghost use Rattle.image_names.specs.Images.{counted_parts, is_built, only_kind};
 
-use conf_sections::{ImageSection, Kind, PartitionSection};
+use conf_keys::{ImageSection, Kind, PartitionSection};
 
 /// The kind of an image that has exactly one section other than `partition`.
 pub fn only_kind(image: &ImageSection) -> Option<Kind>

@@ -1,6 +1,5 @@
 ghost use Rattle.std.specs.Prelude.{◌≡◌, ℕ, ◌<◌, List, [], ◌∷◌, ◌++◌, not, map, length, string_bytes, IfOk, IfSome, OnOk, if◌then◌else◌};
-ghost use Rattle.image_names.specs.Images.{HoldSame, holds};
-ghost use Rattle.image_names.specs.Specs.{number_of};
+ghost use Rattle.image_names.specs.Names.{HoldSame, holds, number_of};
 
 use base_fields::NoMemory;
 use indexmap::IndexSet;
@@ -47,7 +46,8 @@ impl Names {
     /// error nothing is known of the names.
     pub fn add(&mut self, alloc: Global, name: &str) -> Result<bool, NoMemory>
         ensures new { IfOk result (λ new. new ≡ not (holds self.old name.now)) }
-        ensures names { IfOk result (λ new. self.new ≡ (if new then self.old ++ name.now ∷ [] else self.old)) }
+        ensures names { IfOk result (λ new.
+            self.new ≡ (if new then self.old ++ name.now ∷ [] else self.old)) }
         ensures same { OnOk result (HoldSame self.new (self.old ++ name.now ∷ [])) }
     {
         Ok(self.set.insert(String::from_str(alloc, name)?)?)

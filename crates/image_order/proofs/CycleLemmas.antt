@@ -60,8 +60,10 @@ starts_below families image (next ∷ rest) chain = parent_below families image 
 first_is : (families : List (List ℕ)) (image : ℕ) → first_cycle families ≡ Some image → IsFirstCycle families image
 first_is families image h =
     let found = found_first (returns families) 0 (length families) image h in
+    let cycle : HasCycle families image = (returns_exactly families image).0 found.0 in
     record {
-      returns = (returns_exactly families image).0 found.0;
+      within = starts_below families image cycle.0 cycle.1;
+      returns = cycle;
       first = λ earlier less cycle. (let never : returns families earlier ≡ false = found.1 earlier (omega arith) less in let back : returns families earlier ≡ true = returned families earlier cycle in cc);
     }
 

@@ -10,6 +10,7 @@ ReturnsExactly = (families : List (List ℕ)) (image : ℕ) → (returns familie
 
 -- an image has a cycle, and none in front of it has one
 pub record IsFirstCycle (families : List (List ℕ)) (image : ℕ) : Type 0 where
+  pub within : image < length families
   pub returns : HasCycle families image
   pub first : (earlier : ℕ) → earlier < image → HasCycle families earlier → ⊥
 

@@ -1,7 +1,7 @@
-ghost use Rattle.std.specs.Prelude.{◌≡◌, ◌≤◌, IfOk, length, []};
+ghost use Rattle.std.specs.Prelude.{◌≡◌, ◌≤◌, IfErr, IfOk, length, []};
 ghost use Rattle.std.specs.List.{range_with_len};
 ghost use Rattle.image_order.specs.Chains.{AreNumbered, HasNone};
-ghost use Rattle.image_order.specs.Making.{Answers, order_of};
+ghost use Rattle.image_order.specs.Making.{Answers, IsCycleOf, order_of};
 ghost use Rattle.image_order.specs.Order.{IsOrder, Places};
 
 use crate::cycles::first_cycle;
@@ -35,6 +35,7 @@ impl From<NoMemory> for OrderFault {
 pub fn build_order(alloc: Global, families: &[List<u32>]) -> Result<List<u32>, OrderFault>
     requires few { length families.now ≤ 64 }
     ensures answers { Answers (order_of families.now) result }
+    ensures cycle { IfErr result (IsCycleOf families.now) }
     ensures no_cycle { IfOk result (λ order. HasNone families.now) }
     ensures in_order { AreNumbered families.now → IfOk result (IsOrder families.now) }
     ensures placed { AreNumbered families.now →

@@ -1,5 +1,5 @@
 -- What is built: each image with its full name, its flash device, and what it is made of.
-use Rattle.std.specs.Prelude.{ℕ, List, [], ◌∷◌, Option, Some, None, filter, find, map, option_and_then, position, unwrap_or}
+use Rattle.std.specs.Prelude.{ℕ, List, [], ◌∷◌, Option, Some, None, find, map, option_and_then, unwrap_or}
 use Rattle.std.specs.Str.{bytes_eq}
 use Rattle.conf_keys.specs.declared.conf.Conf.{Conf}
 use Rattle.conf_keys.specs.declared.conf.FlashSection.{FlashSection}
@@ -7,20 +7,10 @@ use Rattle.conf_keys.specs.declared.conf.ImageSection.{ImageSection}
 use Rattle.conf_keys.specs.declared.conf.Kind.{Kind}
 use Rattle.conf_keys.specs.declared.conf.Kind.TheVariants as kind
 use Rattle.file_names.specs.FullName.{full_name}
-use Rattle.image_graph.specs.declared.specs.ImageSpec.{ImageSpec}
-use Rattle.image_graph.specs.declared.specs.Source.{Source}
-use Rattle.image_graph.specs.Images.{built_images, is_built, only_kind}
-
--- the place of a name among names
-abbrev pub number_of : List (List ℕ) → List ℕ → Option ℕ
-number_of names name = position (bytes_eq name) names
-
--- the names of those images that are built
-abbrev pub names_built : List ImageSection → List (List ℕ)
-names_built images = map (λ image. image.name) (filter is_built images)
-
-abbrev pub built_names : Conf → List (List ℕ)
-built_names conf = names_built conf.images
+use Rattle.image_specs.specs.declared.specs.ImageSpec.{ImageSpec}
+use Rattle.image_specs.specs.declared.specs.Source.{Source}
+use Rattle.image_names.specs.Images.{built_images, built_names, only_kind}
+use Rattle.image_names.specs.Names.{number_of}
 
 -- ---- sources
 
@@ -75,3 +65,6 @@ specs_of conf = map (spec_of conf (built_names conf)) (built_images conf)
 
 abbrev pub spec_names : List ImageSpec → List (List ℕ)
 spec_names specs = map (λ spec. spec.name) specs
+
+abbrev pub full_names : List ImageSpec → List (List ℕ)
+full_names specs = map (λ spec. spec.full) specs

@@ -1,10 +1,9 @@
 //! Copies of sections.
-ghost use Rattle.std.specs.Prelude.{◌≡◌, IfOk};
+ghost use Rattle.std.specs.Prelude.{◌≡◌, All, IfOk};
+ghost use Rattle.image_specs.specs.Identifiers.{HasIdentifiers, HasPartIdentifiers};
 
 use base_fields::{List, Name, NoMemory};
-use conf_sections::{
-    FlashSection, Hole, ImageSection, Kind, PartitionSection, PlainKeys, SparseKeys,
-};
+use conf_keys::{FlashSection, Hole, ImageSection, Kind, PartitionSection, PlainKeys, SparseKeys};
 use std::alloc::Global;
 
 pub fn copy_name(alloc: Global, name: &Name) -> Result<Name, NoMemory>
@@ -35,7 +34,8 @@ fn copy_holes(alloc: Global, holes: &List<Hole>) -> Result<List<Hole>, NoMemory>
 }
 
 fn copy_part(alloc: Global, part: &PartitionSection) -> Result<PartitionSection, NoMemory>
-    ensures { IfOk result (λ copy. copy ≡ part.now) }
+    ensures copy { IfOk result (λ copy. copy ≡ part.now) }
+    ensures identifiers { IfOk result HasPartIdentifiers }
 {
     Ok(PartitionSection {
         name: copy_name(alloc, &part.name)?,
@@ -61,7 +61,8 @@ fn copy_parts(
     alloc: Global,
     parts: &List<PartitionSection>,
 ) -> Result<List<PartitionSection>, NoMemory>
-    ensures { IfOk result (λ copy. copy ≡ parts.now) }
+    ensures copy { IfOk result (λ copy. copy ≡ parts.now) }
+    ensures identifiers { IfOk result (All HasPartIdentifiers) }
 {
     let mut copy = List::new(alloc);
     for part in parts.as_slice() {
@@ -71,7 +72,8 @@ fn copy_parts(
 }
 
 pub fn copy_image(alloc: Global, image: &ImageSection) -> Result<ImageSection, NoMemory>
-    ensures { IfOk result (λ copy. copy ≡ image.now) }
+    ensures copy { IfOk result (λ copy. copy ≡ image.now) }
+    ensures identifiers { IfOk result HasIdentifiers }
 {
     Ok(ImageSection {
         name: copy_name(alloc, &image.name)?,

@@ -1,15 +1,19 @@
 //! What each image that is built is made of.
-ghost use Rattle.std.specs.Prelude.{◌≡◌, ◌≤◌, ◌∷◌, [], IfOk, length, map, option_copied, unwrap_or};
-ghost use Rattle.image_graph.specs.Clashes.{section_clash};
-ghost use Rattle.image_graph.specs.Specs.{built_names, flash_named, flash_of, ready_file, source_named, source_of, sources_of, spec_of, specs_of};
+ghost use Rattle.std.specs.Prelude.{◌≡◌, ◌≤◌, ◌∷◌, [], All, IfOk, length, map, option_copied, unwrap_or};
+ghost use Rattle.conf_keys.specs.Within.{IsWithin};
+ghost use Rattle.image_names.specs.Clashes.{section_clash};
+ghost use Rattle.image_names.specs.Images.{built_names};
+ghost use Rattle.image_names.specs.Stages.{section_fault};
+ghost use Rattle.image_specs.specs.Identifiers.{HasIdentifiers};
+ghost use Rattle.image_specs.specs.IsSpec.{IsSpec};
+ghost use Rattle.image_specs.specs.Specs.{flash_named, flash_of, ready_file, source_named, source_of, sources_of, spec_of, specs_of};
 
 use crate::copies::{copy_flash, copy_image, copy_name};
-use crate::images::{is_built, only_kind};
-use crate::names::Names;
 use crate::{ImageSpec, Source};
 use base_fields::{List, Name, NoMemory};
-use conf_sections::{Conf, FlashSection, ImageSection, Kind, PartitionSection};
+use conf_keys::{Conf, FlashSection, ImageSection, Kind, PartitionSection};
 use file_names::full_name;
+use image_names::{Names, is_built, only_kind};
 use std::alloc::Global;
 
 fn ready_file(alloc: Global, conf: &Conf, name: &str) -> Result<Source, NoMemory>
@@ -60,7 +64,8 @@ fn part_sources(
     parts: &[PartitionSection],
 ) -> Result<List<Source>, NoMemory>
     requires { length names.now ≤ 64 }
-    ensures { IfOk result (λ sources. sources ≡ map (λ part. source_of conf.now names.now part.image) parts.now) }
+    ensures { IfOk result (λ sources.
+        sources ≡ map (λ part. source_of conf.now names.now part.image) parts.now) }
 {
     let mut sources = List::new(alloc);
     for part in parts {
@@ -94,7 +99,8 @@ fn sources_of(
     kind: Kind,
 ) -> Result<List<Source>, NoMemory>
     requires { length names.now ≤ 64 }
-    ensures { IfOk result (λ sources. sources ≡ sources_of conf.now names.now image.now kind) }
+    ensures { IfOk result (λ sources.
+        sources ≡ sources_of conf.now names.now image.now kind) }
 {
     match kind {
         Kind::Hd | Kind::Flash => part_sources(alloc, conf, names, image.parts.as_slice()),
@@ -135,7 +141,8 @@ fn spec_of(
     image: &ImageSection,
 ) -> Result<ImageSpec, NoMemory>
     requires { length names.now ≤ 64 }
-    ensures { IfOk result (λ spec. spec ≡ spec_of conf.now names.now image.now) }
+    ensures spec { IfOk result (λ spec. spec ≡ spec_of conf.now names.now image.now) }
+    ensures identifiers { IfOk result (λ spec. HasIdentifiers spec.keys) }
 {
     let kind = only_kind(image).unwrap_or(Kind::Ready);
     Ok(ImageSpec {
@@ -164,19 +171,32 @@ fn built_names(alloc: Global, conf: &Conf) -> Result<Names, NoMemory>
     Ok(names)
 }
 
-/// What is built of a configuration in which no two sections have one name.
-pub fn specs_of(alloc: Global, conf: &Conf) -> Result<List<ImageSpec>, NoMemory>
-    requires few { length conf.now.images ≤ 64 }
-    requires apart { section_clash conf.now ≡ None }
+// What is built of a configuration whose sections have no fault.
+fn specs_made(alloc: Global, conf: &Conf, names: &Names) -> Result<List<ImageSpec>, NoMemory>
+    requires few { length names.now ≤ 64 }
+    requires built { names.now ≡ built_names conf.now }
     ensures specs { IfOk result (λ specs. specs ≡ specs_of conf.now) }
-    ensures few { IfOk result (λ specs. length specs ≤ 64) }
+    ensures identifiers { IfOk result (All (λ spec. HasIdentifiers spec.keys)) }
 {
-    let names = built_names(alloc, conf)?;
     let mut specs = List::new(alloc);
     for image in conf.images.as_slice() {
         if is_built(image) {
-            specs.push(spec_of(alloc, conf, &names, image)?)?;
+            specs.push(spec_of(alloc, conf, names, image)?)?;
         }
     }
     Ok(specs)
+}
+
+/// What is built of a configuration whose sections have no fault, in the order of the text.
+/// Takes memory.
+pub fn specs_of(alloc: Global, conf: &Conf) -> Result<List<ImageSpec>, NoMemory>
+    requires checked { section_fault conf.now ≡ None }
+    ensures specs { IfOk result (λ specs. specs ≡ specs_of conf.now) }
+    ensures few { IfOk result (λ specs. length specs ≤ 64) }
+
+    // Each holds what its placement rests on.
+    ensures fit { IsWithin conf.now → IfOk result (All IsSpec) }
+{
+    let names = built_names(alloc, conf)?;
+    Ok(specs_made(alloc, conf, &names)?)
 }

@@ -1,6 +1,6 @@
 use Rattle.std.proofs.Common.{◌≡◌, ◌∙◌, true, ap, cond, None, rules}
 use Rattle.image_names.specs.Clashes.{clash_among, full_clash, full_of}
-use Rattle.image_names.specs.Graph.{Passes}
+use Rattle.image_names.specs.Stages.{Passes}
 use Rattle.image_names.specs.Images.{is_built}
 use Rattle.image_names.proofs.ClashLemmas.{passes_same}
 use Rattle.image_names.proofs.clashes.add_full.Goals as goal

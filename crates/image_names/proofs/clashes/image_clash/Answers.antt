@@ -1,7 +1,7 @@
 use Rattle.std.proofs.Common.{◌≡◌, ◌∙◌, ◌+◌, ◌++◌, ◌∷◌, [], refl, sym, ap, cond, drop, take, rules}
 use Rattle.std.specs.Option.{option_or}
 use Rattle.image_names.specs.Clashes.{clash_with, full_of, image_again, image_clash}
-use Rattle.image_names.specs.Graph.{Passes}
+use Rattle.image_names.specs.Stages.{Passes}
 use Rattle.image_names.specs.Images.{is_built}
 use Rattle.image_names.proofs.ClashLemmas.{again_read, made_read, names_read, passes_same}
 use Rattle.image_names.proofs.clashes.image_clash.Goals as goal

@@ -1,6 +1,6 @@
 use Rattle.std.proofs.Common.{◌≡◌, ◌∙◌, sym, rules}
 use Rattle.image_names.specs.Counts.{first_fault, flash_fault, names_of, no_flash}
-use Rattle.image_names.specs.Graph.{Passes}
+use Rattle.image_names.specs.Stages.{Passes}
 use Rattle.image_names.proofs.ClashLemmas.{flash_same, passes_same}
 use Rattle.image_names.proofs.counts.no_flash.Goals as goal
 

@@ -1,11 +1,11 @@
 use Rattle.std.proofs.Common.{◌≡◌, ◌∙◌, ◌≤◌, length, true, false, sym, ap, arith}
 use Rattle.std.proofs.lemmas.List.{take_all}
 use Rattle.conf_keys.specs.declared.conf.ImageSection.{ImageSection}
-use Rattle.image_graph.specs.Images.{is_built}
-use Rattle.image_graph.specs.Specs.{names_built}
-use Rattle.image_graph.proofs.ClashLemmas.{apart_read, few_built, made_read, new_name}
-use Rattle.image_graph.proofs.sources.built_names.Goals.{then-is_built+in_ok-add, else-is_built}
-use Rattle.image_graph.proofs.sources.built_names.Goals as goal
+use Rattle.image_names.specs.Images.{is_built}
+use Rattle.image_names.specs.Images.{names_built}
+use Rattle.image_names.proofs.ClashLemmas.{apart_read, few_built, made_read, new_name}
+use Rattle.image_specs.proofs.sources.built_names.Goals.{then-is_built+in_ok-add, else-is_built}
+use Rattle.image_specs.proofs.sources.built_names.Goals as goal
 
 pub loop-image-preserved : goal.loop-image-preserved
 loop-image-preserved c =

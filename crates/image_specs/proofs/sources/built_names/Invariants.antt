@@ -1,7 +1,7 @@
 use Rattle.std.proofs.Common.{◌≡◌, None, drop, take}
-use Rattle.image_graph.specs.Clashes.{image_again}
-use Rattle.image_graph.specs.Specs.{names_built}
-use Rattle.image_graph.proofs.sources.built_names.Given as goal
+use Rattle.image_names.specs.Clashes.{image_again}
+use Rattle.image_names.specs.Images.{names_built}
+use Rattle.image_specs.proofs.sources.built_names.Given as goal
 
 abbrev pub invariant-loop-image : goal.invariant-loop-image
 invariant-loop-image l = record {

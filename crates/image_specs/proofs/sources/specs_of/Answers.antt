@@ -1,20 +1,22 @@
-use Rattle.std.proofs.Common.{◌≡◌, ◌∙◌, true, false, sym, ap}
-use Rattle.image_graph.specs.Images.{is_built}
-use Rattle.image_graph.specs.Specs.{built_names, spec_of}
-use Rattle.image_graph.proofs.ClashLemmas.{made_more, made_read}
-use Rattle.image_graph.proofs.sources.specs_of.Goals.{then-is_built+in_ok-spec_of+in_ok-push, else-is_built}
-use Rattle.image_graph.proofs.sources.specs_of.Goals as goal
+use Rattle.std.proofs.Common.{◌≡◌, ◌≤◌, ◌∙◌, List, None, ap, length, subst, sym}
+use Rattle.std.specs.Prelude.{All}
+use Rattle.image_names.specs.Clashes.{section_clash}
+use Rattle.image_names.proofs.CheckLemmas.{is_checked, no_clash}
+use Rattle.image_specs.specs.declared.specs.ImageSpec.{ImageSpec}
+use Rattle.image_specs.specs.Identifiers.{HasIdentifiers}
+use Rattle.image_specs.specs.IsSpec.{IsSpec}
+use Rattle.image_specs.specs.Specs.{specs_of}
+use Rattle.image_specs.proofs.SpecLemmas.{all_fit}
+use Rattle.image_specs.proofs.sources.specs_of.Goals as goal
 
-pub loop-image-preserved : goal.loop-image-preserved
-loop-image-preserved c = elim c.if-is_built.branch [
-  | then-is_built+in_ok-spec_of+in_ok-push w ↦
-      let built : is_built c.image-item.result ≡ true = sym w.if-is_built.ensures in
-      let same = w.in_ok-spec_of.ensures ∙ ap (λ names. spec_of c.args.conf.now names c.image-item.result) c.in_ok-names.ensures.names in
-      w.specs-is
-      ∙ made_more (spec_of c.args.conf.now (built_names c.args.conf.now)) c.as_slice-image-items.result.now c.loop-image.image-index c.image-item.result _ _ _ c.loop-image-test.true c.image-item.is built same c.loop-image.invariant w.in_ok-push.ensures.ok
-  | else-is_built w ↦
-      let built : is_built c.image-item.result ≡ false = sym w.if-is_built.ensures in
-      w.specs-is
-      ∙ c.loop-image.invariant
-      ∙ sym (made_read (spec_of c.args.conf.now (built_names c.args.conf.now)) c.as_slice-image-items.result.now c.loop-image.image-index c.image-item.result false c.loop-image-test.true c.image-item.is built)
-]
+pub built_names-requires-few : goal.built_names-requires-few
+built_names-requires-few c = (is_checked c.args.conf.now c.requires.checked).few
+
+pub built_names-requires-apart : goal.built_names-requires-apart
+built_names-requires-apart c = no_clash c.args.conf.now c.requires.checked
+
+pub returns-clause-fit : goal.returns-clause-fit
+returns-clause-fit c = λ within.
+    let made = c.in_ok-specs_made.ensures in
+    let whole = subst (λ (specs : List ImageSpec). All (λ spec. HasIdentifiers spec.keys) specs) made.specs made.identifiers in
+    subst (λ (specs : List ImageSpec). All IsSpec specs) (sym made.specs) (all_fit c.args.conf.now within (is_checked c.args.conf.now c.requires.checked) whole)

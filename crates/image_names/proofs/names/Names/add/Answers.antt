@@ -1,5 +1,5 @@
 use Rattle.std.proofs.Common.{◌∙◌, ap, not, map, string_bytes}
-use Rattle.image_names.specs.Images.{holds}
+use Rattle.image_names.specs.Names.{holds}
 use Rattle.image_names.proofs.NameLemmas.{holds_key, names_inserted, same_added}
 use Rattle.image_names.proofs.names.Names.add.Goals as goal
 

@@ -1,6 +1,6 @@
 use Rattle.std.proofs.Common.{◌∙◌, sym, ap, string_bytes}
 use Rattle.std.specs.Str.{bytes_eq}
-use Rattle.image_names.specs.Images.{holds}
+use Rattle.image_names.specs.Names.{holds}
 use Rattle.image_names.proofs.NameLemmas.{list_any-map}
 use Rattle.image_names.proofs.names.Names.has.Goals as goal
 

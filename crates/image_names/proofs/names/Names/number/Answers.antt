@@ -1,6 +1,6 @@
 use Rattle.std.proofs.Common.{◌∙◌, sym, ap, string_bytes}
 use Rattle.std.specs.Str.{bytes_eq}
-use Rattle.image_names.specs.Specs.{number_of}
+use Rattle.image_names.specs.Names.{number_of}
 use Rattle.image_names.proofs.NameLemmas.{position-map}
 use Rattle.image_names.proofs.names.Names.number.Goals as goal
 

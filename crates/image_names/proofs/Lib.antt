@@ -1,0 +1,4 @@
+pub mod CheckLemmas
+pub mod ClashLemmas
+pub mod NameLemmas
+pub mod Reading

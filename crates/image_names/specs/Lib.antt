@@ -1,0 +1,7 @@
+-- definitions that contracts cite
+pub mod Checked
+pub mod Clashes
+pub mod Counts
+pub mod Images
+pub mod Names
+pub mod Stages
