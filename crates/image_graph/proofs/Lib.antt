@@ -1,3 +1,4 @@
 pub mod FileLemmas
 pub mod MadeLemmas
 pub mod NumberLemmas
+pub mod ReadyLemmas

@@ -37,8 +37,8 @@ not_ready k made is = let never : is_made kind.Ready ≡ true = sym (ap is_made 
 -- ---- sources
 
 named_file : (conf : Conf) (name : List ℕ) (o : Option ℕ) → IsSome (file_or_child conf name o).file
-named_file conf name None = tt
-named_file conf name (Some child) = tt
+named_file conf name None = refl
+named_file conf name (Some child) = refl
 
 source_for : (conf : Conf) (names : List (List ℕ)) (image : Option (List ℕ)) → IsSourceFor image (source_of conf names image)
 source_for conf names None = (refl, refl)
@@ -52,14 +52,14 @@ one_source : (source : Source) → IsSome source.file → IsOneSource (source �
 one_source source file = record { one = refl; file = All-cons (λ source. IsSome source.file) source [] file (All-nil (λ source. IsSome source.file)) }
 
 given_file : (conf : Conf) (names : List (List ℕ)) (image : Option (List ℕ)) → IsSome image → IsSome (source_of conf names image).file
-given_file conf names None some = absurd some
+given_file conf names None some = cc
 given_file conf names (Some name) some = named_file conf name (number_of names name)
 
 sources_fit : (conf : Conf) (names : List (List ℕ)) (image : ImageSection) (k : Kind) → is_made k ≡ true → (k ≡ kind.Sparse → IsSome image.sparse.image) → AreSources k image.parts (sources_of conf names image k)
 sources_fit conf names image kind.Hd made sparse = part_sources conf names image.parts
 sources_fit conf names image kind.Flash made sparse = part_sources conf names image.parts
 sources_fit conf names image kind.Sparse made sparse = one_source (source_of conf names image.sparse.image) (given_file conf names image.sparse.image (sparse refl))
-sources_fit conf names image kind.Plain made sparse = one_source (ready_file conf (unwrap_or image.plain.name image.name)) tt
+sources_fit conf names image kind.Plain made sparse = one_source (ready_file conf (unwrap_or image.plain.name image.name)) refl
 sources_fit conf names image kind.Ready made sparse = cc
 
 -- as many as there are partitions

@@ -1,9 +1,11 @@
 //! Copies of sections.
-ghost use Rattle.std.specs.Prelude.{◌≡◌, All, IfOk};
-ghost use Rattle.image_specs.specs.Identifiers.{HasIdentifiers, HasPartIdentifiers};
+ghost use Rattle.std.specs.Prelude.{◌≡◌, All, IfOk, IfSome};
+ghost use Rattle.image_specs.specs.Identifiers.{HasIdentifiers, HasPartIdentifiers, IsIdentifier};
 
 use base_fields::{List, Name, NoMemory};
-use conf_keys::{FlashSection, Hole, ImageSection, Kind, PartitionSection, PlainKeys, SparseKeys};
+use conf_keys::{
+    FlashSection, HdKeys, Hole, ImageSection, Kind, PartitionSection, PlainKeys, SparseKeys,
+};
 use std::alloc::Global;
 
 pub fn copy_name(alloc: Global, name: &Name) -> Result<Name, NoMemory>
@@ -33,6 +35,41 @@ fn copy_holes(alloc: Global, holes: &List<Hole>) -> Result<List<Hole>, NoMemory>
     Ok(List::from_vec(Vec::from_slice(alloc, holes.as_slice())?))
 }
 
+// An identifier, which its type gives 16 bytes.
+fn copy_identifier(id: [u8; 16]) -> [u8; 16]
+    ensures copy { result ≡ id }
+    ensures identifier { IsIdentifier result }
+{
+    id
+}
+
+fn copy_given_identifier(id: Option<[u8; 16]>) -> Option<[u8; 16]>
+    ensures copy { result ≡ id }
+    ensures identifier { IfSome result IsIdentifier }
+{
+    match id {
+        Some(id) => Some(copy_identifier(id)),
+        None => None,
+    }
+}
+
+fn copy_hd(hd: &HdKeys) -> HdKeys
+    ensures copy { result ≡ hd.now }
+    ensures identifier { IfSome result.disk_uuid IsIdentifier }
+{
+    HdKeys {
+        align: hd.align,
+        partition_table_type: hd.partition_table_type,
+        extended_partition: hd.extended_partition,
+        disk_signature: hd.disk_signature,
+        disk_uuid: copy_given_identifier(hd.disk_uuid),
+        gpt_location: hd.gpt_location,
+        gpt_no_backup: hd.gpt_no_backup,
+        fill: hd.fill,
+        sector_size: hd.sector_size,
+    }
+}
+
 fn copy_part(alloc: Global, part: &PartitionSection) -> Result<PartitionSection, NoMemory>
     ensures copy { IfOk result (λ copy. copy ≡ part.now) }
     ensures identifiers { IfOk result HasPartIdentifiers }
@@ -51,8 +88,8 @@ fn copy_part(alloc: Global, part: &PartitionSection) -> Result<PartitionSection,
         no_automount: part.no_automount,
         in_partition_table: part.in_partition_table,
         partition_type: part.partition_type,
-        partition_uuid: part.partition_uuid,
-        partition_type_uuid: part.partition_type_uuid,
+        partition_uuid: copy_given_identifier(part.partition_uuid),
+        partition_type_uuid: copy_identifier(part.partition_type_uuid),
         holes: copy_holes(alloc, &part.holes)?,
     })
 }
@@ -80,7 +117,7 @@ pub fn copy_image(alloc: Global, image: &ImageSection) -> Result<ImageSection, N
         kinds: copy_kinds(alloc, &image.kinds)?,
         size: image.size,
         flashtype: copy_given(alloc, &image.flashtype)?,
-        hd: image.hd,
+        hd: copy_hd(&image.hd),
         sparse: SparseKeys {
             image: copy_given(alloc, &image.sparse.image)?,
             block_size: image.sparse.block_size,

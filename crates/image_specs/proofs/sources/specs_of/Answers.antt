@@ -9,11 +9,11 @@ use Rattle.image_specs.specs.Specs.{specs_of}
 use Rattle.image_specs.proofs.SpecLemmas.{all_fit}
 use Rattle.image_specs.proofs.sources.specs_of.Goals as goal
 
-pub built_names-requires-few : goal.built_names-requires-few
-built_names-requires-few c = (is_checked c.args.conf.now c.requires.checked).few
+pub built_names-requires-clause-few : goal.built_names-requires-clause-few
+built_names-requires-clause-few c = (is_checked c.args.conf.now c.requires.checked).few
 
-pub built_names-requires-apart : goal.built_names-requires-apart
-built_names-requires-apart c = no_clash c.args.conf.now c.requires.checked
+pub built_names-requires-clause-apart : goal.built_names-requires-clause-apart
+built_names-requires-clause-apart c = no_clash c.args.conf.now c.requires.checked
 
 pub returns-clause-fit : goal.returns-clause-fit
 returns-clause-fit c = λ within.
