@@ -32,7 +32,7 @@ use Rattle.image_order.specs.Order.{Places}
 use Rattle.image_specs.specs.declared.specs.ImageSpec.{ImageSpec}
 use Rattle.image_specs.specs.declared.specs.Source.{Source}
 use Rattle.image_specs.specs.Specs.{file_or_child, full_names, ready_file, source_of, sources_of, spec_names, spec_of, specs_of}
-use Rattle.image_graph.specs.declared.graph.Graph.{Graph}
+use Rattle.image_graph.specs.declared.images.Graph.{Graph}
 use Rattle.image_graph.specs.Children.{families_of}
 use Rattle.image_graph.specs.Clashes.{file_clash, file_fault, taken}
 use Rattle.image_graph.specs.Graph.{cycle, name_at, order_of, ordered, refused_or}

@@ -7,7 +7,7 @@ use Rattle.std.proofs.lemmas.List.Elements.{Contains-append_left, Contains-appen
 use Rattle.image_specs.specs.declared.specs.ImageSpec.{ImageSpec}
 use Rattle.image_specs.specs.declared.specs.Source.{Source}
 use Rattle.image_specs.specs.Specs.{full_names}
-use Rattle.image_graph.specs.declared.graph.Graph.{Graph}
+use Rattle.image_graph.specs.declared.images.Graph.{Graph}
 use Rattle.image_graph.specs.Clashes.{ready_name, ready_name_of, taken}
 use Rattle.image_graph.specs.IsGraph.{IsGraph}
 

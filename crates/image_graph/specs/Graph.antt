@@ -9,7 +9,7 @@ use Rattle.image_order.specs.Chains.{first_cycle}
 use Rattle.image_order.specs.Order.{order_among}
 use Rattle.image_specs.specs.declared.specs.ImageSpec.{ImageSpec}
 use Rattle.image_specs.specs.Specs.{spec_names, specs_of}
-use Rattle.image_graph.specs.declared.graph.Graph.{Graph}
+use Rattle.image_graph.specs.declared.images.Graph.{Graph}
 use Rattle.image_graph.specs.Children.{families_of}
 use Rattle.image_graph.specs.Clashes.{file_clash}
 

@@ -7,7 +7,7 @@ use Rattle.image_order.specs.Order.{IsOrder, Places}
 use Rattle.image_specs.specs.declared.specs.ImageSpec.{ImageSpec}
 use Rattle.image_specs.specs.declared.specs.Source.{Source}
 use Rattle.image_specs.specs.Specs.{full_names, spec_names}
-use Rattle.image_graph.specs.declared.graph.Graph.{Graph}
+use Rattle.image_graph.specs.declared.images.Graph.{Graph}
 use Rattle.image_graph.specs.Children.{families_of}
 use Rattle.image_graph.specs.Clashes.{taken}
 

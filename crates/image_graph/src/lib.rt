@@ -3,11 +3,11 @@
 
 mod children;
 mod clashes;
-mod graph;
+mod images;
 mod making;
 
-pub use graph::Graph;
 pub use image_names::GraphFault;
 pub use image_order::{cycles_are_chains, images_stand_in_order};
 pub use image_specs::{ImageSpec, Source};
+pub use images::Graph;
 pub use making::graph;

@@ -26,7 +26,7 @@ fn ordered(alloc: Global, specs: List<ImageSpec>) -> Result<Graph, GraphFault>
     match build_order(alloc, families.as_slice()) {
         Ok(order) => Ok(Graph { order, specs }),
         Err(OrderFault::Cycle { image }) => Err(GraphFault::Cycle {
-            name: Name::of(alloc, specs[image as usize].name.text())?,
+            name: Name::of(alloc, specs.as_slice()[image as usize].name.text())?,
         }),
         Err(OrderFault::NoMemory) => Err(GraphFault::NoMemory),
     }

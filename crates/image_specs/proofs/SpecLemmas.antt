@@ -16,8 +16,8 @@ use Rattle.conf_keys.specs.declared.conf.PartitionSection.{PartitionSection}
 use Rattle.conf_keys.specs.Within.{IsFlashWithin, IsImageWithin, IsWithin}
 use Rattle.image_names.specs.Checked.{IsChecked, IsImageChecked}
 use Rattle.image_names.specs.Counts.{has_flash, names_of}
-use Rattle.image_names.specs.Images.{built_names, is_built, is_made, only_kind}
-use Rattle.image_names.specs.Names.{holds, number_of}
+use Rattle.image_names.specs.Images.{built_names, counted_of, is_built, is_made, only_kind}
+use Rattle.image_names.specs.Names.{AreApart, holds, number_of}
 use Rattle.image_specs.specs.declared.specs.ImageSpec.{ImageSpec}
 use Rattle.image_specs.specs.declared.specs.Source.{Source}
 use Rattle.image_specs.specs.Identifiers.{HasIdentifiers}
@@ -111,8 +111,8 @@ spec_fits conf names image k flashes is made within checked whole =
       built = not_ready k made;
       within = within;
       identifiers = whole;
-      few = checked.few;
-      apart = checked.parts;
+      few = subst (λ (o : Option Kind). length (counted_of o image.parts) ≤ 256) is checked.few;
+      apart = subst (λ (o : Option Kind). AreApart (map (λ part. part.name) (counted_of o image.parts))) is checked.parts;
       sources = sources_fit conf names image k made (λ sparse. within.sparse_image (subst (λ (ks : List Kind). Contains ks kind.Sparse) (sym kinds) (subst (λ (x : Kind). Contains (k ∷ []) x) sparse (here k))));
       flash = flash_fits conf.flashes image k flashes (λ flash. checked.flash (is ∙ ap Some flash));
     }

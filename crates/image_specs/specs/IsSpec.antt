@@ -1,12 +1,12 @@
 -- What holds of an image that is built: all that its placement and its composing rest on.
-use Rattle.std.specs.Prelude.{◌≡◌, ◌≢◌, ℕ, ◌≤◌, List, [], ◌∷◌, Option, Some, None, All, IsSome, length}
+use Rattle.std.specs.Prelude.{◌≡◌, ◌≢◌, ℕ, ◌≤◌, List, [], ◌∷◌, Option, Some, None, All, IsSome, length, map}
 use Rattle.std.specs.List.{AllZip}
 use Rattle.conf_keys.specs.declared.conf.FlashSection.{FlashSection}
 use Rattle.conf_keys.specs.declared.conf.Kind.{Kind}
 use Rattle.conf_keys.specs.declared.conf.Kind.TheVariants as kind
 use Rattle.conf_keys.specs.declared.conf.PartitionSection.{PartitionSection}
 use Rattle.conf_keys.specs.Within.{IsFlashWithin, IsImageWithin}
-use Rattle.image_names.specs.Images.{counted_parts, part_names}
+use Rattle.image_names.specs.Images.{counted_of}
 use Rattle.image_names.specs.Names.{AreApart}
 use Rattle.image_specs.specs.declared.specs.ImageSpec.{ImageSpec}
 use Rattle.image_specs.specs.declared.specs.Source.{Source}
@@ -45,6 +45,10 @@ IsFlashFor _ flashtype flash = flash ≡ None
 
 -- ---- an image
 
+-- its partitions that count: no rule looks at those of kind file or android-sparse
+abbrev pub parts_of : ImageSpec → List PartitionSection
+parts_of spec = counted_of (Some spec.kind) spec.keys.parts
+
 -- the keys keep within the limits of a configuration, and no more than 256 partitions count, which have different names
 pub record IsSpec (spec : ImageSpec) : Type 0 where
   pub name : spec.name ≡ spec.keys.name
@@ -52,7 +56,7 @@ pub record IsSpec (spec : ImageSpec) : Type 0 where
   pub built : spec.kind ≢ kind.Ready
   pub within : IsImageWithin spec.keys
   pub identifiers : HasIdentifiers spec.keys
-  pub few : length (counted_parts spec.keys) ≤ 256
-  pub apart : AreApart (part_names spec.keys)
+  pub few : length (parts_of spec) ≤ 256
+  pub apart : AreApart (map (λ part. part.name) (parts_of spec))
   pub sources : AreSources spec.kind spec.keys.parts spec.sources
   pub flash : IsFlashFor spec.kind spec.keys.flashtype spec.flash

@@ -11,18 +11,21 @@ use Rattle.image_graph.proofs.making.graph.Goals as goal
 pub returns-clause-sound : goal.returns-clause-sound
 returns-clause-sound c =
     let specs = c.in_ok-specs.ensures.specs in
-    let free : file_clash c.args.conf.now.texts (specs_of c.args.conf.now) ≡ None = search (rules, sym specs) in
+    let passes : file_clash c.args.conf.now.texts c.in_ok-specs.specs ≡ None = search rules in
+    let free : file_clash c.args.conf.now.texts (specs_of c.args.conf.now) ≡ None = sym (ap (file_clash c.args.conf.now.texts) specs) ∙ passes in
     (has_made c.args.conf.now c.in_ok-ordered.field-0 c.in_ok-check_sections.ensures.passes free (ap ordered (sym specs) ∙ c.in_ok-ordered.ensures)).sound
 
 pub returns-clause-texts : goal.returns-clause-texts
 returns-clause-texts c =
     let specs = c.in_ok-specs.ensures.specs in
-    let free : file_clash c.args.conf.now.texts (specs_of c.args.conf.now) ≡ None = search (rules, sym specs) in
+    let passes : file_clash c.args.conf.now.texts c.in_ok-specs.specs ≡ None = search rules in
+    let free : file_clash c.args.conf.now.texts (specs_of c.args.conf.now) ≡ None = sym (ap (file_clash c.args.conf.now.texts) specs) ∙ passes in
     (has_made c.args.conf.now c.in_ok-ordered.field-0 c.in_ok-check_sections.ensures.passes free (ap ordered (sym specs) ∙ c.in_ok-ordered.ensures)).texts
 
 pub returns-clause-specs : goal.returns-clause-specs
 returns-clause-specs c = λ within.
     let specs = c.in_ok-specs.ensures.specs in
-    let free : file_clash c.args.conf.now.texts (specs_of c.args.conf.now) ≡ None = search (rules, sym specs) in
+    let passes : file_clash c.args.conf.now.texts c.in_ok-specs.specs ≡ None = search rules in
+    let free : file_clash c.args.conf.now.texts (specs_of c.args.conf.now) ≡ None = sym (ap (file_clash c.args.conf.now.texts) specs) ∙ passes in
     let made : HasMade c.args.conf.now c.in_ok-ordered.field-0 = has_made c.args.conf.now c.in_ok-ordered.field-0 c.in_ok-check_sections.ensures.passes free (ap ordered (sym specs) ∙ c.in_ok-ordered.ensures) in
     subst (λ (xs : List ImageSpec). All IsSpec xs) (specs ∙ sym made.specs) (c.in_ok-specs.ensures.fit within)

@@ -4,7 +4,7 @@ use Rattle.image_specs.specs.declared.specs.ImageSpec.{ImageSpec}
 use Rattle.image_specs.specs.Specs.{spec_names}
 use Rattle.image_names.specs.Names.{number_of}
 use Rattle.image_names.proofs.NameLemmas.{found_at, found_nowhere, position-map}
-use Rattle.image_graph.proofs.graph.Graph.find.Goals as goal
+use Rattle.image_graph.proofs.images.Graph.find.Goals as goal
 
 pub returns-then-eq : goal.returns-then-eq
 returns-then-eq c =
