@@ -13,7 +13,8 @@ use Rattle.image_graph.specs.Clashes.{taken}
 
 -- a source with a child has that image's file
 abbrev pub IsMadeOf : List ImageSpec → Source → Type 0
-IsMadeOf specs source = IfSome source.child (λ child. (child < length specs) × (slice_get (full_names specs) child ≡ source.file))
+IsMadeOf specs source =
+    IfSome source.child (λ child. (child < length specs) × (slice_get (full_names specs) child ≡ source.file))
 
 -- the order is that in which the images of the text are placed one after another, each behind its children
 pub record IsGraph (graph : Graph) : Type 0 where

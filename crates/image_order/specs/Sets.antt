@@ -24,9 +24,11 @@ joined through middle set = if has set middle then bit_or set through else set
 -- a chain leads there that goes over images below that number alone
 abbrev pub leads : List (List ℕ) → ℕ → ℕ → ℕ → Bool
 leads families zero from to = is_placed (children families from) to
-leads families (suc middle) from to = leads families middle from to || leads families middle from middle && leads families middle middle to
+leads families (suc middle) from to =
+    leads families middle from to || leads families middle from middle && leads families middle middle to
 
 -- the sets tell of each image to which others such a chain leads
 pub record Tells (families : List (List ℕ)) (middle : ℕ) (sets : List ℕ) : Type 0 where
   pub count : length sets ≡ length families
-  pub each : (from to : ℕ) → from < length families → to < 64 → has (slice_index sets from) to ≡ leads families middle from to
+  pub each : (from to : ℕ) → from < length families → to < 64 →
+      has (slice_index sets from) to ≡ leads families middle from to

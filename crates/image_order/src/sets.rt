@@ -53,7 +53,8 @@ fn sets_of(alloc: Global, families: &[List<u32>]) -> Result<Vec<u64>, NoMemory>
 fn join(sets: &mut Vec<u64>, middle: usize)
     requires within { middle < length sets.old.items }
     requires few { length sets.old.items ≤ 64 }
-    ensures { sets.new.items ≡ map (joined (slice_index sets.old.items middle) middle) sets.old.items }
+    ensures { sets.new.items
+        ≡ map (joined (slice_index sets.old.items middle) middle) sets.old.items }
 {
     let through = sets[middle];
     for image in 0..sets.len() {
