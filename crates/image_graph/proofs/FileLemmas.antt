@@ -1,15 +1,13 @@
 -- Files that are read, and those of images.
 use Rattle.std.proofs.Common.{◌≡◌, ℕ, zero, suc, ◌<◌, ◌||◌, List, [], ◌∷◌, Bool, true, false, cond, Some, None, refl, ap, sym, ◌∙◌, map, length, slice_index_or, arith}
-use Rattle.std.specs.Prelude.{Contains}
 use Rattle.std.specs.List.{AllByRecursion}
-use Rattle.std.specs.Str.{bytes_eq}
-use Rattle.std.proofs.lemmas.Slice.Eq.{bytes_eq-Decides}
 use Rattle.image_names.specs.declared.fault.GraphFault.TheVariants.{NameClash}
 use Rattle.image_names.specs.Clashes.{clash_among}
 use Rattle.image_names.specs.Counts.{first_fault}
 use Rattle.image_names.specs.Names.{AreDisjoint, HoldSame, holds}
 use Rattle.image_names.proofs.CheckLemmas.{none_of}
 use Rattle.image_names.proofs.ClashLemmas.{first_same, not_held}
+use Rattle.image_names.proofs.LawLemmas.{there_held}
 use Rattle.image_specs.specs.declared.specs.ImageSpec.{ImageSpec}
 use Rattle.image_specs.specs.Specs.{full_names}
 use Rattle.image_graph.specs.Clashes.{file_fault}
@@ -20,19 +18,6 @@ file_same names others same = first_same (file_fault names) (file_fault others) 
 
 -- ---- where there is no refusal
 
--- a name that is in a list is held by it
-held_at : (names : List (List ℕ)) (name : List ℕ) (k : ℕ) → k < length names → slice_index_or names k name ≡ name → holds names name ≡ true
-held_at [] name k below is = absurd (omega arith)
-held_at (first ∷ names) name zero below is = ap (λ b. b || holds names name) ((bytes_eq-Decides name first).1 (sym is))
-held_at (first ∷ names) name (suc k) below is = at_right (bytes_eq name first) (held_at names name k (omega arith) is)
-  where
-    at_right : (b : Bool) → holds names name ≡ true → (b || holds names name) ≡ true
-    at_right true h = refl
-    at_right false h = h
-
-held : (names : List (List ℕ)) (name : List ℕ) → Contains names name → holds names name ≡ true
-held names name there = held_at names name there.0 there.1 there.2
-
 -- the file at a place is none of the names
 free_at : (names : List (List ℕ)) (specs : List ImageSpec) → AllByRecursion (λ spec. file_fault names spec ≡ None) specs → (name : List ℕ) (k : ℕ) → k < length (full_names specs) → slice_index_or (full_names specs) k name ≡ name → holds names name ≡ false
 free_at names [] none name k below is = absurd (omega arith)
@@ -42,5 +27,5 @@ free_at names (spec ∷ specs) none name (suc k) below is = free_at names specs 
 pub disjoint_from : (names : List (List ℕ)) (specs : List ImageSpec) → first_fault (file_fault names) specs ≡ None → AreDisjoint (full_names specs) names
 disjoint_from names specs none name there among =
     let free : holds names name ≡ false = free_at names specs (none_of (file_fault names) specs none) name there.0 there.1 there.2 in
-    let known : holds names name ≡ true = held names name among in
+    let known : holds names name ≡ true = there_held names name among in
     cc

@@ -68,9 +68,9 @@ not_among names more name h =
     (parts.0, λ same. (let equal : bytes_eq name more ≡ true = (bytes_eq-Decides name more).1 (sym same) in let other : bytes_eq name more ≡ false = differs.0 in cc))
 
 -- each of the names is new among the earlier ones, and differs from those behind it
-record AreNew (earlier names : List (List ℕ)) : Type 0 where
-  fresh : AllByRecursion (λ name. holds earlier name ≡ false) names
-  apart : AreApart names
+pub record AreNew (earlier names : List (List ℕ)) : Type 0 where
+  pub fresh : AllByRecursion (λ name. holds earlier name ≡ false) names
+  pub apart : AreApart names
 
 fresh_of : (earlier : List (List ℕ)) (name : List ℕ) (names : List (List ℕ)) → AllByRecursion (λ n. holds (earlier ++ name ∷ []) n ≡ false) names → AllByRecursion (λ n. holds earlier n ≡ false) names × AllByRecursion (λ n. name ≢ n) names
 fresh_of earlier name [] h = (tt, tt)
@@ -82,12 +82,12 @@ fresh_of earlier name (n ∷ names) h =
 apart_nil : AreApart []
 apart_nil i j d less within = absurd (omega arith)
 
-new_cons : (earlier : List (List ℕ)) (name : List ℕ) (names : List (List ℕ)) → holds earlier name ≡ false → AreNew (earlier ++ name ∷ []) names → AreNew earlier (name ∷ names)
+pub new_cons : (earlier : List (List ℕ)) (name : List ℕ) (names : List (List ℕ)) → holds earlier name ≡ false → AreNew (earlier ++ name ∷ []) names → AreNew earlier (name ∷ names)
 new_cons earlier name names fresh rest =
     let both = fresh_of earlier name names rest.fresh in
     record { fresh = (fresh, both.0); apart = AllPairs-cons (λ a b. a ≢ b) name names (All-from_recursion (λ n. name ≢ n) names both.1) rest.apart }
 
-again_new : (earlier names : List (List ℕ)) → again earlier names ≡ None → AreNew earlier names
+pub again_new : (earlier names : List (List ℕ)) → again earlier names ≡ None → AreNew earlier names
 again_new earlier [] h = record { fresh = tt; apart = apart_nil }
 again_new earlier (name ∷ names) h =
     let parts = neither (clash_among earlier name) (again (earlier ++ name ∷ []) names) h in
@@ -98,10 +98,10 @@ again_apart names h = (again_new [] names h).apart
 
 -- ---- no image with one name with an earlier one
 
-record ImagesNew (output : List ℕ) (earlier images : List ImageSection) : Type 0 where
-  names : AreNew (all_names earlier) (all_names images)
-  built : AreNew (names_built earlier) (names_built images)
-  fulls : AreNew (built_fulls output earlier) (built_fulls output images)
+pub record ImagesNew (output : List ℕ) (earlier images : List ImageSection) : Type 0 where
+  pub names : AreNew (all_names earlier) (all_names images)
+  pub built : AreNew (names_built earlier) (names_built images)
+  pub fulls : AreNew (built_fulls output earlier) (built_fulls output images)
 
 -- what is made of the images up to one
 made_to : {X : Type 0} (f : ImageSection → X) (earlier : List ImageSection) (image : ImageSection) (b : Bool) → is_built image ≡ b → map f (filter is_built (earlier ++ image ∷ [])) ≡ map f (filter is_built earlier) ++ map f (cond b (image ∷ []) [])
@@ -131,23 +131,33 @@ full_fresh fulls output image none built =
     let clash : clash_among fulls (full_of output image) ≡ None = sym (ap (λ b. cond b (clash_among fulls (full_of output image)) None) built) ∙ none in
     not_held fulls (full_of output image) (holds fulls (full_of output image)) refl clash
 
-images_new : (output : List ℕ) (earlier images : List ImageSection) → image_again output earlier images ≡ None → ImagesNew output earlier images
-images_new output earlier [] h = record {
+pub images_fresh : (output : List ℕ) (earlier : List ImageSection) → ImagesNew output earlier []
+images_fresh output earlier = record {
   names = record { fresh = tt; apart = apart_nil };
   built = record { fresh = tt; apart = apart_nil };
   fulls = record { fresh = tt; apart = apart_nil };
 }
-images_new output earlier (image ∷ images) h =
-    let parts = neither (clash_with (all_names earlier) (built_fulls output earlier) output image) (image_again output (earlier ++ image ∷ []) images) h in
-    let named = neither (clash_among (all_names earlier) image.name) (full_clash (built_fulls output earlier) output image) parts.0 in
+
+-- one more image in front that has no name with an earlier one
+pub images_more : (output : List ℕ) (earlier : List ImageSection) (image : ImageSection) (images : List ImageSection) → clash_with (all_names earlier) (built_fulls output earlier) output image ≡ None → ImagesNew output (earlier ++ image ∷ []) images → ImagesNew output earlier (image ∷ images)
+images_more output earlier image images clash rest =
+    let named = neither (clash_among (all_names earlier) image.name) (full_clash (built_fulls output earlier) output image) clash in
     let free : holds (all_names earlier) image.name ≡ false = not_held (all_names earlier) image.name (holds (all_names earlier) image.name) refl named.0 in
-    let rest = images_new output (earlier ++ image ∷ []) images parts.1 in
     let so_far : all_names (earlier ++ image ∷ []) ≡ all_names earlier ++ image.name ∷ [] = map-append (λ (image : ImageSection). image.name) earlier (image ∷ []) in
     record {
       names = new_cons (all_names earlier) image.name (all_names images) free (rw (sym so_far) rest.names);
       built = new_made (λ (image : ImageSection). image.name) earlier image images (is_built image) refl (λ built. built_held earlier image.name free) rest.built;
       fulls = new_made (full_of output) earlier image images (is_built image) refl (full_fresh (built_fulls output earlier) output image named.1) rest.fulls;
     }
+
+images_new : (output : List ℕ) (earlier images : List ImageSection) → image_again output earlier images ≡ None → ImagesNew output earlier images
+images_new output earlier [] h = images_fresh output earlier
+images_new output earlier (image ∷ images) h =
+    let parts = neither (clash_with (all_names earlier) (built_fulls output earlier) output image) (image_again output (earlier ++ image ∷ []) images) h in
+    images_more output earlier image images parts.0 (images_new output (earlier ++ image ∷ []) images parts.1)
+
+pub images_apart : (output : List ℕ) (images : List ImageSection) → image_clash output images ≡ None → ImagesNew output [] images
+images_apart output images h = images_new output [] images h
 
 -- ---- all of it
 

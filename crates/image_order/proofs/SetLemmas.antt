@@ -1,5 +1,5 @@
 -- Chains over the first images alone: one more image lets through those that go by it.
-use Rattle.std.proofs.Common.{◌≡◌, ℕ, zero, suc, ◌<◌, ◌≤◌, ◌||◌, ◌&&◌, ◌⊎◌, inl, inr, List, [], ◌∷◌, ◌++◌, Bool, true, false, cond, refl, ap, sym, subst, ◌∙◌, nat_eq, max, map, take, get_or, length, arith, w64, ◌+◌, ◌*◌, ◌%◌, ◌^◌, Some}
+use Rattle.std.proofs.Common.{◌≡◌, ℕ, zero, suc, ◌<◌, ◌≤◌, ◌||◌, ◌&&◌, ◌⊎◌, inl, inr, List, [], ◌∷◌, ◌++◌, Bool, true, false, refl, ap, sym, subst, ◌∙◌, nat_eq, max, map, take, get_or, length, arith, w64, ◌+◌, ◌*◌, ◌%◌, ◌^◌}
 use Rattle.std.specs.Prelude.{◌≢◌, Contains, slice_index, unwrap_or}
 use Rattle.std.specs.Int.{bit_at}
 use Rattle.std.specs.Int.RustNames.{bit_or}
@@ -13,7 +13,7 @@ use Rattle.std.proofs.lemmas.Nat.Bits.{bit_at-lt, bit_at_or, bit_at_set_other, b
 use Rattle.image_order.specs.Chains.{HasCycle, IsChain, children, returns}
 use Rattle.image_order.specs.Order.{is_placed}
 use Rattle.image_order.specs.Sets.{IsAdded, IsSetOf, Tells, has, joined, leads}
-use Rattle.image_order.proofs.ChainLemmas.{chain-append, chain_below, parent_below, returns_exactly}
+use Rattle.image_order.proofs.ChainLemmas.{chain-append, chain_below, returns_exactly}
 use Rattle.image_order.proofs.Members.{Below, by_test, contains_placed, placed_from}
 
 -- ---- tests
