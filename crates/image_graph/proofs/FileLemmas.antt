@@ -1,8 +1,7 @@
 -- Files that are read, and those of images.
-use Rattle.std.proofs.Common.{◌≡◌, ℕ, zero, suc, ◌<◌, ◌||◌, List, [], ◌∷◌, Bool, true, false, cond, Some, None, refl, ap, sym, ◌∙◌, map, length, slice_index_or, arith}
+use Rattle.std.proofs.Common.{◌≡◌, ℕ, zero, suc, ◌<◌, List, [], ◌∷◌, true, false, cond, Some, None, refl, ap, sym, ◌∙◌, length, slice_index_or, arith}
 use Rattle.std.specs.List.{AllByRecursion}
 use Rattle.image_names.specs.declared.fault.GraphFault.TheVariants.{NameClash}
-use Rattle.image_names.specs.Clashes.{clash_among}
 use Rattle.image_names.specs.Counts.{first_fault}
 use Rattle.image_names.specs.Names.{AreDisjoint, HoldSame, holds}
 use Rattle.image_names.proofs.CheckLemmas.{none_of}

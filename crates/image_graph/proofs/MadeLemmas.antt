@@ -1,13 +1,12 @@
 -- What holds of a graph that is made.
-use Rattle.std.proofs.Common.{◌≡◌, ℕ, zero, suc, ◌<◌, ◌≤◌, List, [], ◌∷◌, true, Option, Some, None, Result, Ok, refl, ap, sym, subst, ◌∙◌, map, get_or, length, arith}
-use Rattle.std.specs.Prelude.{All, IfSome, filter, slice_get, unwrap_or}
+use Rattle.std.proofs.Common.{◌≡◌, ℕ, zero, suc, ◌<◌, List, [], ◌∷◌, Option, Some, None, Result, Ok, refl, ap, sym, subst, ◌∙◌, map, get_or, length, arith}
+use Rattle.std.specs.Prelude.{All, slice_get, unwrap_or}
 use Rattle.std.specs.List.{AllByRecursion, range_with_len}
 use Rattle.std.specs.Option.{option_map}
 use Rattle.std.specs.Str.{bytes_eq}
 use Rattle.std.proofs.lemmas.List.{length-map}
 use Rattle.std.proofs.lemmas.List.Elements.{All-from_recursion}
 use Rattle.std.proofs.lemmas.List.Quantifiers.{position-Some}
-use Rattle.std.proofs.lemmas.Option.{slice_get-get_or}
 use Rattle.std.proofs.lemmas.Slice.Eq.{bytes_eq-Decides}
 use Rattle.conf_keys.specs.declared.conf.Conf.{Conf}
 use Rattle.conf_keys.specs.declared.conf.ImageSection.{ImageSection}
@@ -18,10 +17,10 @@ use Rattle.file_names.specs.FullName.{full_name}
 use Rattle.image_names.specs.declared.fault.GraphFault.{GraphFault}
 use Rattle.image_names.specs.declared.fault.GraphFault.TheVariants.{Cycle}
 use Rattle.image_names.specs.Checked.{IsChecked}
-use Rattle.image_names.specs.Clashes.{built_fulls, full_of}
+use Rattle.image_names.specs.Clashes.{full_of}
 use Rattle.image_names.specs.Counts.{first_fault}
-use Rattle.image_names.specs.Images.{built_images, built_names, is_built, names_built, only_kind}
-use Rattle.image_names.specs.Names.{AreApart, AreDisjoint, number_of}
+use Rattle.image_names.specs.Images.{built_images, built_names, names_built, only_kind}
+use Rattle.image_names.specs.Names.{AreDisjoint, number_of}
 use Rattle.image_names.specs.Stages.{section_fault}
 use Rattle.image_names.proofs.CheckLemmas.{is_checked}
 use Rattle.image_names.proofs.ClashLemmas.{few_built, neither}
@@ -30,8 +29,7 @@ use Rattle.image_order.proofs.CycleLemmas.{none_at_all}
 use Rattle.image_order.proofs.PlacingLemmas.{order_places, order_stands}
 use Rattle.image_order.specs.Order.{Places}
 use Rattle.image_specs.specs.declared.specs.ImageSpec.{ImageSpec}
-use Rattle.image_specs.specs.declared.specs.Source.{Source}
-use Rattle.image_specs.specs.Specs.{file_or_child, full_names, ready_file, source_of, sources_of, spec_names, spec_of, specs_of}
+use Rattle.image_specs.specs.Specs.{file_or_child, full_names, source_of, sources_of, spec_names, spec_of, specs_of}
 use Rattle.image_graph.specs.declared.images.Graph.{Graph}
 use Rattle.image_graph.specs.Children.{families_of}
 use Rattle.image_graph.specs.Clashes.{file_clash, file_fault, taken}

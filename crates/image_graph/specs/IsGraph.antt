@@ -1,5 +1,5 @@
 -- What holds of all images that are built together.
-use Rattle.std.specs.Prelude.{◌≡◌, ◌≢◌, ℕ, ◌<◌, ◌≤◌, List, [], All, IfSome, length, slice_get}
+use Rattle.std.specs.Prelude.{◌≡◌, ◌<◌, ◌≤◌, List, [], All, IfSome, length, slice_get}
 use Rattle.std.specs.List.{range_with_len}
 use Rattle.image_names.specs.Names.{AreApart, AreDisjoint}
 use Rattle.image_order.specs.Chains.{HasNone}

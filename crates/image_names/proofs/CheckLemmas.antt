@@ -1,25 +1,22 @@
 -- What holds of a configuration whose sections have no fault.
-use Rattle.std.proofs.Common.{◌≡◌, ℕ, zero, suc, ◌<◌, ◌≤◌, ◌||◌, List, [], ◌∷◌, ◌++◌, Bool, true, false, cond, Option, Some, None, refl, ap, sym, ◌∙◌, map, length, nat_eq, arith}
-use Rattle.std.specs.Prelude.{◌≢◌, All, nat_lt, filter}
-use Rattle.std.specs.List.{AllByRecursion, AllPairs}
-use Rattle.std.specs.Option.{option_or}
+use Rattle.std.proofs.Common.{◌≡◌, ℕ, ◌<◌, ◌≤◌, ◌||◌, List, [], ◌∷◌, ◌++◌, Bool, true, false, cond, Option, Some, None, refl, ap, sym, ◌∙◌, map, length, nat_eq, arith}
+use Rattle.std.specs.Prelude.{◌≢◌, nat_lt, filter}
+use Rattle.std.specs.List.{AllByRecursion}
 use Rattle.std.specs.Str.{bytes_eq}
 use Rattle.std.proofs.lemmas.Bool.{eqb-true, lt-ltb}
 use Rattle.std.proofs.lemmas.List.{map-append}
-use Rattle.std.proofs.lemmas.List.Elements.{All-cons, All-from_recursion, All-nil, filter-append}
+use Rattle.std.proofs.lemmas.List.Elements.{All-from_recursion, filter-append}
 use Rattle.std.proofs.lemmas.List.Folds.{list_any-append}
 use Rattle.std.proofs.lemmas.List.Kept.{AllPairs-cons}
 use Rattle.std.proofs.lemmas.Slice.Eq.{bytes_eq-Decides}
 use Rattle.conf_keys.specs.declared.conf.Conf.{Conf}
 use Rattle.conf_keys.specs.declared.conf.ImageSection.{ImageSection}
-use Rattle.conf_keys.specs.declared.conf.Kind.{Kind}
-use Rattle.conf_keys.specs.declared.conf.Kind.TheVariants as kind
 use Rattle.image_names.specs.declared.fault.GraphFault.{GraphFault}
-use Rattle.image_names.specs.declared.fault.GraphFault.TheVariants.{NameClash, NoFlash, NoKind, TooMany}
+use Rattle.image_names.specs.declared.fault.GraphFault.TheVariants.{NoFlash, NoKind, TooMany}
 use Rattle.image_names.specs.Checked.{IsChecked, IsImageChecked, NamesFlash}
 use Rattle.image_names.specs.Clashes.{again, built_fulls, clash_among, clash_with, flash_clash, full_clash, full_of, image_again, image_clash, part_clash, section_clash}
 use Rattle.image_names.specs.Counts.{first_fault, flash_fault, flash_fault_of, has_flash, kind_fault, names_of, no_flash, no_kind, past, too_many}
-use Rattle.image_names.specs.Images.{all_names, counted_parts, is_built, names_built, only_kind}
+use Rattle.image_names.specs.Images.{all_names, counted_parts, is_built, names_built}
 use Rattle.image_names.specs.Names.{AreApart, holds}
 use Rattle.image_names.specs.Stages.{section_fault}
 use Rattle.image_names.proofs.ClashLemmas.{built_held, neither, not_held}

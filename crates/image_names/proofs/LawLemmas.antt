@@ -1,19 +1,17 @@
 -- The first of two things with one name.
-use Rattle.std.proofs.Common.{◌≡◌, ℕ, zero, suc, ◌<◌, ◌||◌, ◌⊎◌, inl, inr, List, [], ◌∷◌, ◌++◌, Bool, true, false, cond, Option, Some, None, refl, ap, sym, subst, ◌∙◌, append_assoc, map, length, slice_index_or, arith}
+use Rattle.std.proofs.Common.{◌≡◌, ℕ, zero, suc, ◌<◌, ◌||◌, ◌⊎◌, inl, inr, List, [], ◌∷◌, ◌++◌, Bool, true, false, cond, Option, Some, None, refl, ap, sym, subst, ◌∙◌, append_assoc, length, slice_index_or, arith}
 use Rattle.std.specs.Prelude.{Contains}
-use Rattle.std.specs.List.{list_any}
 use Rattle.std.specs.Option.{option_or}
 use Rattle.std.specs.Str.{bytes_eq}
 use Rattle.std.proofs.lemmas.Slice.Eq.{bytes_eq-Decides}
 use Rattle.conf_keys.specs.declared.conf.ImageSection.{ImageSection}
 use Rattle.image_names.specs.declared.fault.GraphFault.{GraphFault}
 use Rattle.image_names.specs.declared.fault.GraphFault.TheVariants.{NameClash}
-use Rattle.image_names.specs.Clashes.{again, built_fulls, clash_among, clash_with, full_clash, full_of, image_again, image_clash}
+use Rattle.image_names.specs.Clashes.{again, built_fulls, clash_with, full_clash, full_of, image_again, image_clash}
 use Rattle.image_names.specs.Images.{all_names, is_built}
 use Rattle.image_names.specs.Laws.{HasFull, HasName, ImagesExactly, IsFirstImage, IsFirstTwice, TwiceExactly}
-use Rattle.image_names.specs.Names.{AreApart, holds}
+use Rattle.image_names.specs.Names.{holds}
 use Rattle.image_names.proofs.CheckLemmas.{AreNew, ImagesNew, again_apart, again_new, images_apart, images_fresh, images_more, new_cons}
-use Rattle.image_names.proofs.ClashLemmas.{neither}
 
 -- ---- a name that is held stands in the list
 

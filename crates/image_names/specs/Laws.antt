@@ -1,5 +1,5 @@
 -- Laws of names: where two are the same, and where no two are.
-use Rattle.std.specs.Prelude.{◌≡◌, ℕ, ◌⊎◌, true, List, [], ◌∷◌, ◌++◌, Option, Some, None, Contains}
+use Rattle.std.specs.Prelude.{◌≡◌, ℕ, ◌⊎◌, true, List, [], ◌∷◌, ◌++◌, Some, None, Contains}
 use Rattle.conf_keys.specs.declared.conf.ImageSection.{ImageSection}
 use Rattle.image_names.specs.declared.fault.GraphFault.{GraphFault}
 use Rattle.image_names.specs.declared.fault.GraphFault.TheVariants.{NameClash}

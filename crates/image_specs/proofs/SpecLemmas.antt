@@ -1,8 +1,8 @@
 -- What is built of a configuration that keeps within the limits, and whose sections have no fault, holds what placement
 -- rests on.
 use Rattle.std.proofs.Common.{◌≡◌, ℕ, ◌≤◌, ◌||◌, List, [], ◌∷◌, Bool, true, false, cond, Option, Some, None, refl, ap, sym, subst, ◌∙◌, map, length, arith}
-use Rattle.std.specs.Prelude.{All, Contains, IsSome, filter, find, option_and_then, unwrap_or}
-use Rattle.std.specs.List.{AllByRecursion, AllZip}
+use Rattle.std.specs.Prelude.{All, Contains, IsSome, filter, option_and_then, unwrap_or}
+use Rattle.std.specs.List.{AllByRecursion}
 use Rattle.std.specs.Option.{option_map_or}
 use Rattle.std.specs.Str.{bytes_eq}
 use Rattle.std.proofs.lemmas.List.Elements.{All-cons, All-from_recursion, All-nil, recursion_from_All}
@@ -22,7 +22,7 @@ use Rattle.image_specs.specs.declared.specs.ImageSpec.{ImageSpec}
 use Rattle.image_specs.specs.declared.specs.Source.{Source}
 use Rattle.image_specs.specs.Identifiers.{HasIdentifiers}
 use Rattle.image_specs.specs.IsSpec.{ArePartSources, AreSources, IsFlashFor, IsOneSource, IsSourceFor, IsSpec}
-use Rattle.image_specs.specs.Specs.{file_or_child, flash_named, flash_of, ready_file, source_named, source_of, sources_of, spec_as, spec_of, specs_of}
+use Rattle.image_specs.specs.Specs.{file_or_child, flash_named, flash_of, ready_file, source_of, sources_of, spec_as, spec_of, specs_of}
 
 -- ---- the only kind
 

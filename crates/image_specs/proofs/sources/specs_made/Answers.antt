@@ -1,5 +1,4 @@
-use Rattle.std.proofs.Common.{◌≡◌, ◌∙◌, true, false, sym, ap, subst, List}
-use Rattle.std.specs.Prelude.{All}
+use Rattle.std.proofs.Common.{◌≡◌, ◌∙◌, true, false, sym, ap}
 use Rattle.std.proofs.lemmas.List.Elements.{All-push, All-same}
 use Rattle.image_names.specs.Images.{built_names, is_built}
 use Rattle.image_names.proofs.ClashLemmas.{made_more, made_read}

@@ -1,11 +1,9 @@
-use Rattle.std.proofs.Common.{◌≡◌, ◌≤◌, ◌∙◌, List, None, ap, length, subst, sym}
+use Rattle.std.proofs.Common.{List, subst, sym}
 use Rattle.std.specs.Prelude.{All}
-use Rattle.image_names.specs.Clashes.{section_clash}
 use Rattle.image_names.proofs.CheckLemmas.{is_checked, no_clash}
 use Rattle.image_specs.specs.declared.specs.ImageSpec.{ImageSpec}
 use Rattle.image_specs.specs.Identifiers.{HasIdentifiers}
 use Rattle.image_specs.specs.IsSpec.{IsSpec}
-use Rattle.image_specs.specs.Specs.{specs_of}
 use Rattle.image_specs.proofs.SpecLemmas.{all_fit}
 use Rattle.image_specs.proofs.sources.specs_of.Goals as goal
 
