@@ -4,6 +4,3 @@
 mod names;
 
 pub use names::full_name;
-
-#[cfg(test)]
-mod tests;

@@ -1,10 +1,4 @@
-pub mod ChainLemmas
-pub mod ClashLemmas
+pub mod FileLemmas
 pub mod MadeLemmas
-pub mod Members
-pub mod NameLemmas
 pub mod NumberLemmas
-pub mod PathLemmas
-pub mod PlacingLemmas
-pub mod Reading
-pub mod RowLemmas
+pub mod ReadyLemmas

@@ -1,29 +1,42 @@
 -- What holds of a graph that is made.
-use Rattle.std.proofs.Common.{◌≡◌, ℕ, zero, suc, ◌+◌, ◌<◌, List, [], ◌∷◌, Bool, true, false, cond, Option, Some, None, Result, Ok, refl, ap, sym, subst, ◌∙◌, map, length, arith}
-use Rattle.std.specs.Prelude.{All, IfSome, filter, option_and_then}
-use Rattle.std.specs.List.{AllByRecursion}
+use Rattle.std.proofs.Common.{◌≡◌, ℕ, zero, suc, ◌<◌, List, [], ◌∷◌, Option, Some, None, Result, Ok, refl, ap, sym, subst, ◌∙◌, map, get_or, length, arith}
+use Rattle.std.specs.Prelude.{All, slice_get, unwrap_or}
+use Rattle.std.specs.List.{AllByRecursion, range_with_len}
+use Rattle.std.specs.Option.{option_map}
 use Rattle.std.specs.Str.{bytes_eq}
-use Rattle.std.proofs.lemmas.List.Elements.{All-from_recursion, recursion_from_All}
+use Rattle.std.proofs.lemmas.List.{length-map}
+use Rattle.std.proofs.lemmas.List.Elements.{All-from_recursion}
+use Rattle.std.proofs.lemmas.List.Quantifiers.{position-Some}
+use Rattle.std.proofs.lemmas.Slice.Eq.{bytes_eq-Decides}
 use Rattle.conf_keys.specs.declared.conf.Conf.{Conf}
-use Rattle.conf_keys.specs.declared.conf.FlashSection.{FlashSection}
 use Rattle.conf_keys.specs.declared.conf.ImageSection.{ImageSection}
 use Rattle.conf_keys.specs.declared.conf.Kind.{Kind}
 use Rattle.conf_keys.specs.declared.conf.Kind.TheVariants as kind
-use Rattle.conf_keys.specs.Within.{IsFlashWithin, IsImageWithin, IsWithin}
-use Rattle.image_graph.specs.declared.fault.GraphFault.{GraphFault}
-use Rattle.image_graph.specs.declared.fault.GraphFault.TheVariants.{Cycle}
-use Rattle.image_graph.specs.declared.specs.Graph.{Graph}
-use Rattle.image_graph.specs.declared.specs.ImageSpec.{ImageSpec}
-use Rattle.image_graph.specs.Chains.{IsChain, cycle, cycle_from, families_of, returns}
-use Rattle.image_graph.specs.Graph.{ordered, refused_or}
-use Rattle.image_graph.specs.Images.{is_built}
-use Rattle.image_graph.specs.Laws.{HasNone, IsOrder}
-use Rattle.image_graph.specs.Order.{order_of}
-use Rattle.image_graph.specs.Specs.{built_names, flash_named, flash_of, spec_of, specs_of}
-use Rattle.image_graph.specs.Within.{IsSpecWithin}
-use Rattle.image_graph.proofs.ChainLemmas.{parent_below, returned}
-use Rattle.image_graph.proofs.NumberLemmas.{spec_count}
-use Rattle.image_graph.proofs.PlacingLemmas.{order_stands}
+use Rattle.conf_keys.specs.declared.conf.PartitionSection.{PartitionSection}
+use Rattle.file_names.specs.FullName.{full_name}
+use Rattle.image_names.specs.declared.fault.GraphFault.{GraphFault}
+use Rattle.image_names.specs.declared.fault.GraphFault.TheVariants.{Cycle}
+use Rattle.image_names.specs.Checked.{IsChecked}
+use Rattle.image_names.specs.Clashes.{full_of}
+use Rattle.image_names.specs.Counts.{first_fault}
+use Rattle.image_names.specs.Images.{built_images, built_names, names_built, only_kind}
+use Rattle.image_names.specs.Names.{AreDisjoint, number_of}
+use Rattle.image_names.specs.Stages.{section_fault}
+use Rattle.image_names.proofs.CheckLemmas.{is_checked}
+use Rattle.image_names.proofs.ClashLemmas.{few_built, neither}
+use Rattle.image_order.specs.Chains.{HasNone, first_cycle}
+use Rattle.image_order.proofs.CycleLemmas.{none_at_all}
+use Rattle.image_order.proofs.PlacingLemmas.{order_places, order_stands}
+use Rattle.image_order.specs.Order.{Places}
+use Rattle.image_specs.specs.declared.specs.ImageSpec.{ImageSpec}
+use Rattle.image_specs.specs.Specs.{file_or_child, full_names, source_of, sources_of, spec_names, spec_of, specs_of}
+use Rattle.image_graph.specs.declared.images.Graph.{Graph}
+use Rattle.image_graph.specs.Children.{families_of}
+use Rattle.image_graph.specs.Clashes.{file_clash, file_fault, taken}
+use Rattle.image_graph.specs.Graph.{cycle, name_at, order_of, ordered, refused_or}
+use Rattle.image_graph.specs.IsGraph.{IsGraph, IsMadeOf}
+use Rattle.image_graph.proofs.FileLemmas.{disjoint_from}
+use Rattle.image_graph.proofs.NumberLemmas.{numbered, spec_count}
 
 -- ---- no stage refused
 
@@ -31,68 +44,92 @@ passed : (fault : Option GraphFault) (behind : Result Graph GraphFault) (graph :
 passed None behind graph h = (refl, h)
 passed (Some fault) behind graph h = cc
 
--- ---- no chain returns
-
-none_from : (families : List (List ℕ)) (first : ℕ) (specs : List ImageSpec) → cycle_from families first specs ≡ None → (k : ℕ) → k < length specs → returns families (first + k) ≡ false
-none_from families first [] h k below = absurd (omega arith)
-none_from families first (spec ∷ specs) h k below = at_first (returns families first) refl h k below (none_from families (suc first) specs)
+no_first : (specs : List ImageSpec) → cycle specs ≡ None → first_cycle (families_of specs) ≡ None
+no_first specs h = by_case (first_cycle (families_of specs)) h
   where
-    at_first : (b : Bool) → returns families first ≡ b → cond b (Some (Cycle spec.name)) (cycle_from families (suc first) specs) ≡ None → (k : ℕ) → k < suc (length specs) → (cycle_from families (suc first) specs ≡ None → (k : ℕ) → k < length specs → returns families (suc first + k) ≡ false) → returns families (first + k) ≡ false
-    at_first true e h k below rest = cc
-    at_first false e h zero below rest = let same : first + zero ≡ first = omega arith in ap (returns families) same ∙ e
-    at_first false e h (suc k) below rest = let same : first + suc k ≡ suc first + k = omega arith in ap (returns families) same ∙ rest h k (omega arith)
+    by_case : (o : Option ℕ) → option_map (λ image. Cycle (name_at specs image)) o ≡ None → o ≡ None
+    by_case None h = refl
+    by_case (Some image) h = cc
 
-pub none_returns : (conf : Conf) → cycle (specs_of conf) ≡ None → HasNone (families_of (specs_of conf))
-none_returns conf h image found =
-    let chain = returned (families_of (specs_of conf)) image found in
-    let within : image < length (specs_of conf) = subst (λ (n : ℕ). image < n) (spec_count conf) (starts_below found.0 found.1) in
-    let same : zero + image ≡ image = omega arith in
-    let never : returns (families_of (specs_of conf)) image ≡ false = sym (ap (returns (families_of (specs_of conf))) same) ∙ none_from (families_of (specs_of conf)) 0 (specs_of conf) h image within in
-    cc (chain, never)
-  where
-    starts_below : (between : List ℕ) → IsChain (families_of (specs_of conf)) image between image → image < length (families_of (specs_of conf))
-    starts_below [] chain = parent_below (families_of (specs_of conf)) image image chain
-    starts_below (next ∷ rest) chain = parent_below (families_of (specs_of conf)) image next chain.0
+-- ---- names
 
--- what the graph of a configuration has
+names_are : (conf : Conf) (names : List (List ℕ)) (images : List ImageSection) → spec_names (map (spec_of conf names) images) ≡ map (λ image. image.name) images
+names_are conf names [] = refl
+names_are conf names (image ∷ images) = ap (λ ns. image.name ∷ ns) (names_are conf names images)
+
+fulls_are : (conf : Conf) (names : List (List ℕ)) (images : List ImageSection) → full_names (map (spec_of conf names) images) ≡ map (full_of conf.output) images
+fulls_are conf names [] = refl
+fulls_are conf names (image ∷ images) = ap (λ ns. full_of conf.output image ∷ ns) (fulls_are conf names images)
+
+-- the full name of the image at a place
+full_at : (output : List ℕ) (images : List ImageSection) (k : ℕ) → k < length images → slice_get (map (full_of output) images) k ≡ Some (full_name output (get_or (map (λ (image : ImageSection). image.name) images) k []))
+full_at output [] k below = absurd (omega arith)
+full_at output (image ∷ images) zero below = refl
+full_at output (image ∷ images) (suc k) below = full_at output images k (omega arith)
+
+-- ---- a source with a child has that image's file
+
+child_made : (conf : Conf) (name : List ℕ) (o : Option ℕ) → number_of (built_names conf) name ≡ o → IsMadeOf (specs_of conf) (file_or_child conf name o)
+child_made conf name None e = tt
+child_made conf name (Some child) e =
+    let found = position-Some (bytes_eq name) (built_names conf) child [] e in
+    let few : length (built_names conf) ≡ length (built_images conf) = length-map (built_images conf) (λ (image : ImageSection). image.name) in
+    let long : length (specs_of conf) ≡ length (built_images conf) = length-map (built_images conf) (spec_of conf (built_names conf)) in
+    let same : name ≡ get_or (built_names conf) child [] = (bytes_eq-Decides name (get_or (built_names conf) child [])).0 found.1 in (
+      omega (arith, found.0, few, long),
+      ap (λ ns. slice_get ns child) (fulls_are conf (built_names conf) (built_images conf))
+          ∙ full_at conf.output (built_images conf) child (omega (arith, found.0, few))
+          ∙ ap (λ n. Some (full_name conf.output n)) (sym same),
+    )
+
+source_made : (conf : Conf) (image : Option (List ℕ)) → IsMadeOf (specs_of conf) (source_of conf (built_names conf) image)
+source_made conf None = tt
+source_made conf (Some name) = child_made conf name (number_of (built_names conf) name) refl
+
+parts_made : (conf : Conf) (parts : List PartitionSection) → AllByRecursion (IsMadeOf (specs_of conf)) (map (λ part. source_of conf (built_names conf) part.image) parts)
+parts_made conf [] = tt
+parts_made conf (part ∷ parts) = (source_made conf part.image, parts_made conf parts)
+
+sources_made : (conf : Conf) (image : ImageSection) (k : Kind) → AllByRecursion (IsMadeOf (specs_of conf)) (sources_of conf (built_names conf) image k)
+sources_made conf image kind.Hd = parts_made conf image.parts
+sources_made conf image kind.Flash = parts_made conf image.parts
+sources_made conf image kind.Sparse = (source_made conf image.sparse.image, tt)
+sources_made conf image kind.Plain = (tt, tt)
+sources_made conf image kind.Ready = tt
+
+specs_made : (conf : Conf) (images : List ImageSection) → AllByRecursion (λ spec. All (IsMadeOf (specs_of conf)) spec.sources) (map (spec_of conf (built_names conf)) images)
+specs_made conf [] = tt
+specs_made conf (image ∷ images) =
+    (All-from_recursion (IsMadeOf (specs_of conf)) (spec_of conf (built_names conf) image).sources (sources_made conf image (unwrap_or (only_kind image.kinds) kind.Ready)), specs_made conf images)
+
+-- ---- all of it
+
+sound_order : (conf : Conf) → section_fault conf ≡ None → file_clash conf.texts (specs_of conf) ≡ None → HasNone (families_of (specs_of conf)) → IsGraph (record { order = order_of (specs_of conf); specs = specs_of conf })
+sound_order conf checked free none =
+    let holds : IsChecked conf = is_checked conf checked in
+    let files = neither (first_fault (file_fault (taken (specs_of conf))) (specs_of conf)) (first_fault (file_fault conf.texts) (specs_of conf)) free in
+    let long : length (specs_of conf) ≡ length (names_built conf.images) = length-map (built_images conf) (spec_of conf (built_names conf)) ∙ sym (length-map (built_images conf) (λ (image : ImageSection). image.name)) in
+    record {
+      few = omega (arith, holds.few, few_built conf.images, long);
+      names = rw (names_are conf (built_names conf) (built_images conf)) holds.built;
+      fulls = rw (fulls_are conf (built_names conf) (built_images conf)) holds.fulls;
+      ready = disjoint_from (taken (specs_of conf)) (specs_of conf) files.0;
+      children = All-from_recursion (λ spec. All (IsMadeOf (specs_of conf)) spec.sources) (specs_of conf) (specs_made conf (built_images conf));
+      no_cycle = none;
+      in_order = order_stands (families_of (specs_of conf)) (numbered conf) none;
+      placed = subst (λ (n : ℕ). Places (families_of (specs_of conf)) (range_with_len 0 n) [] (order_of (specs_of conf))) (spec_count conf) (order_places (families_of (specs_of conf)) (numbered conf) none);
+    }
+
+-- a graph is that of the images of its configuration
 pub record HasMade (conf : Conf) (graph : Graph) : Type 0 where
   pub specs : graph.specs ≡ specs_of conf
-  pub no_cycle : HasNone (families_of graph.specs)
-  pub in_order : IsOrder (families_of graph.specs) graph.order
+  pub sound : IsGraph graph
+  pub texts : AreDisjoint (full_names graph.specs) conf.texts
 
-pub has_made : (conf : Conf) (graph : Graph) → ordered (specs_of conf) ≡ Ok graph → HasMade conf graph
-has_made conf graph h =
+pub has_made : (conf : Conf) (graph : Graph) → section_fault conf ≡ None → file_clash conf.texts (specs_of conf) ≡ None → ordered (specs_of conf) ≡ Ok graph → HasMade conf graph
+has_made conf graph checked free h =
     let stage = passed (cycle (specs_of conf)) (Ok (record { order = order_of (specs_of conf); specs = specs_of conf })) graph h in
     let whole : record { order = order_of (specs_of conf); specs = specs_of conf } ≡ graph = cc (stage.1) in
-    let none : HasNone (families_of (specs_of conf)) = none_returns conf stage.0 in
-    subst (λ (g : Graph). HasMade conf g) whole (record { specs = refl; no_cycle = none; in_order = order_stands conf none })
-
--- ---- keys and names within the limits
-
-found_within : (flashes : List FlashSection) (name : List ℕ) → AllByRecursion IsFlashWithin flashes → IfSome (flash_named flashes name) IsFlashWithin
-found_within [] name all = tt
-found_within (flash ∷ flashes) name all = at_first (bytes_eq name flash.name) all.0 (found_within flashes name all.1)
-  where
-    at_first : (b : Bool) → IsFlashWithin flash → IfSome (flash_named flashes name) IsFlashWithin → IfSome (cond b (Some flash) (flash_named flashes name)) IsFlashWithin
-    at_first true here rest = here
-    at_first false here rest = rest
-
-flash_within : (flashes : List FlashSection) (image : ImageSection) (k : Kind) → AllByRecursion IsFlashWithin flashes → IfSome (flash_of flashes image k) IsFlashWithin
-flash_within flashes image kind.Flash all = given image.flashtype
-  where
-    given : (o : Option (List ℕ)) → IfSome (option_and_then (flash_named flashes) o) IsFlashWithin
-    given None = tt
-    given (Some name) = found_within flashes name all
-flash_within flashes image _ all = tt
-
-specs_within : (conf : Conf) (names : List (List ℕ)) (images : List ImageSection) → AllByRecursion IsFlashWithin conf.flashes → AllByRecursion IsImageWithin images → AllByRecursion IsSpecWithin (map (spec_of conf names) (filter is_built images))
-specs_within conf names [] flashes all = tt
-specs_within conf names (image ∷ images) flashes all = at_first (is_built image) (record { keys = all.0; flash = flash_within conf.flashes image _ flashes }) (specs_within conf names images flashes all.1)
-  where
-    at_first : (b : Bool) → IsSpecWithin (spec_of conf names image) → AllByRecursion IsSpecWithin (map (spec_of conf names) (filter is_built images)) → AllByRecursion IsSpecWithin (map (spec_of conf names) (cond b (image ∷ filter is_built images) (filter is_built images)))
-    at_first true here rest = (here, rest)
-    at_first false here rest = rest
-
-pub all_within : (conf : Conf) → IsWithin conf → All IsSpecWithin (specs_of conf)
-all_within conf within =
-    All-from_recursion IsSpecWithin (specs_of conf) (specs_within conf (built_names conf) conf.images (recursion_from_All IsFlashWithin conf.flashes within.flashes) (recursion_from_All IsImageWithin conf.images within.images))
+    let none : HasNone (families_of (specs_of conf)) = none_at_all (families_of (specs_of conf)) (no_first (specs_of conf) stage.0) in
+    let files = neither (first_fault (file_fault (taken (specs_of conf))) (specs_of conf)) (first_fault (file_fault conf.texts) (specs_of conf)) free in
+    subst (λ (g : Graph). HasMade conf g) whole (record { specs = refl; sound = sound_order conf checked free none; texts = disjoint_from conf.texts (specs_of conf) files.1 })

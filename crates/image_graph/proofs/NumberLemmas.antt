@@ -12,13 +12,15 @@ use Rattle.conf_keys.specs.declared.conf.ImageSection.{ImageSection}
 use Rattle.conf_keys.specs.declared.conf.Kind.{Kind}
 use Rattle.conf_keys.specs.declared.conf.Kind.TheVariants as kind
 use Rattle.conf_keys.specs.declared.conf.PartitionSection.{PartitionSection}
-use Rattle.image_graph.specs.declared.specs.Source.{Source}
-use Rattle.image_graph.specs.Chains.{children, children_of, families_of}
-use Rattle.image_graph.specs.Images.{built_images, only_kind}
-use Rattle.image_graph.specs.Order.{is_placed}
-use Rattle.image_graph.specs.Specs.{built_names, file_or_child, number_of, source_of, sources_of, spec_of, specs_of}
-use Rattle.image_graph.proofs.ChainLemmas.{none_contains}
-use Rattle.image_graph.proofs.Members.{placed_cons, placed_from}
+use Rattle.image_specs.specs.declared.specs.Source.{Source}
+use Rattle.image_order.specs.Chains.{AreNumbered, children}
+use Rattle.image_order.specs.Order.{is_placed}
+use Rattle.image_order.proofs.ChainLemmas.{none_contains}
+use Rattle.image_order.proofs.Members.{placed_cons, placed_from}
+use Rattle.image_graph.specs.Children.{children_of, families_of}
+use Rattle.image_names.specs.Images.{built_images, built_names, only_kind}
+use Rattle.image_names.specs.Names.{number_of}
+use Rattle.image_specs.specs.Specs.{file_or_child, source_of, sources_of, spec_of, specs_of}
 
 -- a source has no child, or one below a limit
 abbrev IsBelow : ℕ → Source → Type 0
@@ -69,7 +71,7 @@ name_count conf =
     ∙ sym (spec_count conf)
 
 -- the children of an image of a configuration have numbers of images
-pub numbered : (conf : Conf) (image child : ℕ) → Contains (children (families_of (specs_of conf)) image) child → child < length (families_of (specs_of conf))
+pub numbered : (conf : Conf) → AreNumbered (families_of (specs_of conf))
 numbered conf image child there =
     let found : children (families_of (specs_of conf)) image ≡ unwrap_or (option_map children_of (option_map (spec_of conf (built_names conf)) (slice_get (built_images conf) image))) [] =
     ap (λ o. unwrap_or o []) (slice_get-map children_of (specs_of conf) image ∙ ap (option_map children_of) (slice_get-map (spec_of conf (built_names conf)) (built_images conf) image)) in

@@ -1,12 +1,8 @@
--- definitions that contracts cite
-pub mod Chains
+-- definitions that contracts cite, and those of what is built
+pub use Rattle.image_specs.specs.Identifiers
+pub use Rattle.image_specs.specs.IsSpec
+pub use Rattle.image_specs.specs.Specs
+pub mod Children
 pub mod Clashes
-pub mod Counts
 pub mod Graph
-pub mod Images
-pub mod Laws
-pub mod Order
-pub mod Path
-pub mod Rows
-pub mod Specs
-pub mod Within
+pub mod IsGraph

@@ -1,119 +1,15 @@
-//! Refusals of two things with one name.
-ghost use Rattle.std.specs.Prelude.{◌≡◌, ◌∷◌, ◌++◌, [], OnOk, IfOk, if◌then◌else◌};
+//! Refusals of an image whose file is one that is read.
+ghost use Rattle.std.specs.Prelude.{◌≡◌, ◌++◌, OnOk, IfOk};
 ghost use Rattle.std.specs.List.{flat_map};
-ghost use Rattle.image_graph.specs.Clashes.{clash_among, clash_with, file_clash, file_fault, flash_clash, full_clash, full_of, image_clash, part_clash, ready_name, section_clash, taken};
-ghost use Rattle.image_graph.specs.Counts.{first_fault};
-ghost use Rattle.image_graph.specs.Graph.{Passes};
-ghost use Rattle.image_graph.specs.Images.{HoldSame, is_built};
+ghost use Rattle.image_names.specs.Counts.{first_fault};
+ghost use Rattle.image_names.specs.Names.{HoldSame};
+ghost use Rattle.image_names.specs.Stages.{Passes};
+ghost use Rattle.image_graph.specs.Clashes.{file_clash, file_fault, ready_name, taken};
 
-use crate::images::{counted_parts, is_built};
-use crate::names::Names;
-use crate::{GraphFault, ImageSpec, Source};
 use base_fields::{Name, NoMemory};
-use conf_sections::{Conf, FlashSection, ImageSection};
-use file_names::full_name;
+use image_names::{GraphFault, Names, clash};
+use image_specs::{ImageSpec, Source};
 use std::alloc::Global;
-
-fn clash(alloc: Global, name: &str) -> Result<(), GraphFault>
-    ensures { Passes (Some (GraphFault.NameClash name.now)) result }
-{
-    Err(GraphFault::NameClash {
-        name: Name::of(alloc, name)?,
-    })
-}
-
-// Adds a name behind the others, or refuses one that is there.
-fn add_new(alloc: Global, names: &mut Names, name: &str) -> Result<(), GraphFault>
-    ensures passes { Passes (clash_among names.old name.now) result }
-    ensures added { OnOk result (names.new ≡ names.old ++ name.now ∷ []) }
-{
-    if !names.add(alloc, name)? {
-        clash(alloc, name)?;
-    }
-    Ok(())
-}
-
-// ---- sections
-
-fn flash_clash(alloc: Global, flashes: &[FlashSection]) -> Result<(), GraphFault>
-    ensures { Passes (flash_clash flashes.now) result }
-{
-    let mut names = Names::new(alloc);
-    for flash in flashes {
-        add_new(alloc, &mut names, flash.name.text())?;
-    }
-    Ok(())
-}
-
-fn part_clash(alloc: Global, image: &ImageSection) -> Result<(), GraphFault>
-    ensures { Passes (part_clash image.now) result }
-{
-    let mut names = Names::new(alloc);
-    for part in counted_parts(image) {
-        add_new(alloc, &mut names, part.name.text())?;
-    }
-    Ok(())
-}
-
-// Adds the full name of an image that is built.
-fn add_full(
-    alloc: Global,
-    output: &str,
-    fulls: &mut Names,
-    image: &ImageSection,
-) -> Result<(), GraphFault>
-    ensures passes { Passes (full_clash fulls.old output.now image.now) result }
-    ensures added { OnOk result (fulls.new ≡ (if is_built image.now then fulls.old ++ full_of output.now image.now ∷ [] else fulls.old)) }
-{
-    if !is_built(image) {
-        return Ok(());
-    }
-    let full = full_name(alloc, output, image.name.text())?;
-    add_new(alloc, fulls, full.text())?;
-    Ok(())
-}
-
-// Adds the names of an image, or refuses one that has one name with an earlier one.
-fn add_image(
-    alloc: Global,
-    output: &str,
-    names: &mut Names,
-    fulls: &mut Names,
-    image: &ImageSection,
-) -> Result<(), GraphFault>
-    ensures passes { Passes (clash_with names.old fulls.old output.now image.now) result }
-    ensures names { OnOk result (names.new ≡ names.old ++ image.now.name ∷ []) }
-    ensures fulls { OnOk result (fulls.new ≡ (if is_built image.now then fulls.old ++ full_of output.now image.now ∷ [] else fulls.old)) }
-{
-    add_new(alloc, names, image.name.text())?;
-    add_full(alloc, output, fulls, image)?;
-    Ok(())
-}
-
-fn image_clash(alloc: Global, output: &str, images: &[ImageSection]) -> Result<(), GraphFault>
-    ensures { Passes (image_clash output.now images.now) result }
-{
-    let mut names = Names::new(alloc);
-    let mut fulls = Names::new(alloc);
-    for image in images {
-        add_image(alloc, output, &mut names, &mut fulls, image)?;
-    }
-    Ok(())
-}
-
-/// Refuses two images, two flash sections or two partitions of one image with one name.
-pub fn section_clash(alloc: Global, conf: &Conf) -> Result<(), GraphFault>
-    ensures { Passes (section_clash conf.now) result }
-{
-    image_clash(alloc, conf.output.text(), conf.images.as_slice())?;
-    flash_clash(alloc, conf.flashes.as_slice())?;
-    for image in conf.images.as_slice() {
-        part_clash(alloc, image)?;
-    }
-    Ok(())
-}
-
-// ---- files
 
 // Adds the file of a source, where it is taken ready.
 fn add_ready(alloc: Global, names: &mut Names, source: &Source) -> Result<(), NoMemory>

@@ -1,33 +1,32 @@
-ghost use Rattle.std.specs.Prelude.{◌≡◌};
-ghost use Rattle.image_graph.specs.Images.{counted_parts, is_built, only_kind};
+use base_fields::List;
+use image_specs::ImageSpec;
 
-use conf_sections::{ImageSection, Kind, PartitionSection};
-
-/// The kind of an image that has exactly one section other than `partition`.
-pub fn only_kind(image: &ImageSection) -> Option<Kind>
-    ensures { result ≡ only_kind image.now.kinds }
-{
-    match image.kinds.as_slice() {
-        [kind] => Some(*kind),
-        _ => None,
-    }
+/// What is built of a configuration.
+#[derive(Debug, Drop)]
+pub struct Graph {
+    /// The number of each image in `specs`, those of its children first.
+    pub order: List<u32>,
+    /// One for each image that is built, in the order of the text.
+    pub specs: List<ImageSpec>,
 }
 
-pub fn is_built(image: &ImageSection) -> bool
-    ensures { result ≡ is_built image.now }
-{
-    match only_kind(image) {
-        Some(Kind::Hd | Kind::Flash | Kind::Sparse | Kind::Plain) => true,
-        Some(Kind::Ready) | None => false,
-    }
-}
+impl Graph {
+    ghost use Rattle.std.specs.Prelude.{◌≡◌, ◌≤◌, length};
+    ghost use Rattle.image_names.specs.Names.{number_of};
+    ghost use Rattle.image_specs.specs.Specs.{spec_names};
 
-/// The partitions that rules look at.
-pub fn counted_parts(image: &ImageSection) -> &[PartitionSection]
-    ensures { result.now ≡ counted_parts image.now }
-{
-    match only_kind(image) {
-        Some(Kind::Sparse | Kind::Plain) => &[],
-        _ => image.parts.as_slice(),
+    /// The number of the image of that name; None where none is built. Takes no memory.
+    pub fn find(&self, name: &str) -> Option<u32>
+        requires { length self.now.specs ≤ 64 }
+        ensures { result ≡ number_of (spec_names self.now.specs) name.now }
+    {
+        let mut number = 0;
+        for spec in self.specs.as_slice() {
+            if name == spec.name.text() {
+                return Some(number);
+            }
+            number += 1;
+        }
+        None
     }
 }

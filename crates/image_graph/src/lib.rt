@@ -1,23 +1,13 @@
 //! Which images of a configuration are built, from which images and files, and in which order.
 #![tactic(auto)]
 
-mod chains;
+mod children;
 mod clashes;
-mod copies;
-mod counts;
-mod fault;
 mod images;
-mod laws;
 mod making;
-mod names;
-mod ordering;
-mod sources;
-mod specs;
 
-pub use fault::GraphFault;
-pub use laws::{cycles_are_chains, images_stand_in_order};
+pub use image_names::{GraphFault, clashes_are_first};
+pub use image_order::{cycles_are_chains, images_stand_in_order};
+pub use image_specs::{ImageSpec, Source};
+pub use images::Graph;
 pub use making::graph;
-pub use specs::{Graph, ImageSpec, Source};
-
-#[cfg(test)]
-mod tests;

@@ -1,6 +1,6 @@
 use Rattle.std.proofs.Common.{◌≡◌, drop}
 use Rattle.image_graph.specs.Clashes.{file_fault}
-use Rattle.image_graph.specs.Counts.{first_fault}
+use Rattle.image_names.specs.Counts.{first_fault}
 use Rattle.image_graph.proofs.clashes.file_among.Given as goal
 
 abbrev pub invariant-loop-spec : goal.invariant-loop-spec

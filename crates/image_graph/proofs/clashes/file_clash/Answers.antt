@@ -1,9 +1,10 @@
 use Rattle.std.proofs.Common.{◌≡◌, ◌∙◌, None, sym, ap, rules}
 use Rattle.std.specs.Option.{option_or}
 use Rattle.image_graph.specs.Clashes.{file_clash, file_fault, taken}
-use Rattle.image_graph.specs.Counts.{first_fault}
-use Rattle.image_graph.specs.Graph.{Passes}
-use Rattle.image_graph.proofs.ClashLemmas.{file_same, passes_same}
+use Rattle.image_names.specs.Counts.{first_fault}
+use Rattle.image_names.specs.Stages.{Passes}
+use Rattle.image_names.proofs.ClashLemmas.{passes_same}
+use Rattle.image_graph.proofs.FileLemmas.{file_same}
 use Rattle.image_graph.proofs.clashes.file_clash.Goals as goal
 
 pub returns-in_err-file_among : goal.returns-in_err-file_among

@@ -1,5 +1,5 @@
 use Rattle.std.proofs.Common.{take}
-use Rattle.image_graph.specs.Images.{HoldSame}
+use Rattle.image_names.specs.Names.{HoldSame}
 use Rattle.image_graph.proofs.clashes.text_names.Given as goal
 
 abbrev pub invariant-loop-text : goal.invariant-loop-text

@@ -1,7 +1,0 @@
-use Rattle.std.proofs.Common.{◌≡◌, drop}
-use Rattle.image_graph.specs.Clashes.{part_clash, section_clash}
-use Rattle.image_graph.specs.Counts.{first_fault}
-use Rattle.image_graph.proofs.clashes.section_clash.Given as goal
-
-abbrev pub invariant-loop-image : goal.invariant-loop-image
-invariant-loop-image l = section_clash l.conf ≡ first_fault part_clash (drop l.image-index l.image-items)

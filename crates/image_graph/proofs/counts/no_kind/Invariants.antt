@@ -1,6 +1,0 @@
-use Rattle.std.proofs.Common.{◌≡◌, drop}
-use Rattle.image_graph.specs.Counts.{first_fault, kind_fault, no_kind}
-use Rattle.image_graph.proofs.counts.no_kind.Given as goal
-
-abbrev pub invariant-loop-image : goal.invariant-loop-image
-invariant-loop-image l = no_kind l.conf ≡ first_fault kind_fault (drop l.image-index l.image-items)

@@ -1,8 +1,0 @@
-use Rattle.image_graph.proofs.PlacingLemmas.{order_places, order_stands}
-use Rattle.image_graph.proofs.laws.images_stand_in_order.Goals as goal
-
-pub returns-clause-stands : goal.returns-clause-stands
-returns-clause-stands c = order_stands
-
-pub returns-clause-places : goal.returns-clause-places
-returns-clause-places c = order_places

@@ -1,0 +1,4 @@
+-- definitions that contracts cite
+pub mod Identifiers
+pub mod IsSpec
+pub mod Specs
