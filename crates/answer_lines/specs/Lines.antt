@@ -1,5 +1,6 @@
 -- The lines of what is done.
 use Rattle.std.specs.Prelude.{ℕ, Bool, List, [], ◌∷◌, ◌++◌, codes, decimal}
+use Rattle.sparse_reader.specs.declared.view.SparseView.{SparseView}
 use Rattle.answer_lines.specs.Line.{shown_flag, shown_name, spelled, with_fields}
 
 -- a word with numbers behind it, each with its key
@@ -27,6 +28,11 @@ forgotten_text held = codes "forgotten" ++ spelled (codes "held", shown_flag hel
 
 abbrev pub verified_text : ℕ → List ℕ
 verified_text ranges = numbers (codes "verified") ((codes "ranges", ranges) ∷ [])
+
+abbrev pub sparse_text : SparseView → List ℕ
+sparse_text view =
+    numbers (codes "sparse") ((codes "block", view.block) ∷ (codes "blocks", view.blocks) ∷ (codes "chunks", view.chunks)
+    ∷ (codes "raw", view.raw) ∷ (codes "fill", view.fill) ∷ (codes "skip", view.skip) ∷ (codes "crc", view.crc) ∷ [])
 
 abbrev pub demo_text : ℕ → ℕ → ℕ → ℕ → ℕ → List ℕ
 demo_text seed size parts ranges units =

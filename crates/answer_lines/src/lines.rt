@@ -5,10 +5,11 @@ ghost use Rattle.answer_lines.specs.Lines.{built_text, copied_text, cut_text, de
 ghost use Rattle.answer_lines.specs.Lines.{expanded_text};
 ghost use Rattle.answer_lines.specs.Lines.{forgotten_text, gang_text, image_text, mapped_text};
 ghost use Rattle.answer_lines.specs.Lines.{nand_text};
-ghost use Rattle.answer_lines.specs.Lines.{verified_text};
+ghost use Rattle.answer_lines.specs.Lines.{sparse_text, verified_text};
 
 use crate::Answer;
 use crate::line::Line;
+use sparse_reader::SparseView;
 
 /// Puts the line of an answer at the front of the room, and gives its length: 0 for an answer whose work was done,
 /// which has no such line. The room has at least [`LINE_ROOM`](crate::LINE_ROOM) bytes, as in each call here.
@@ -75,6 +76,24 @@ pub fn verified_line(ranges: u64, room: &mut [u8]) -> usize
     ensures { PutsLine (verified_text ranges) room.new result }
 {
     Line::headed("verified").number("ranges", ranges).put(room)
+}
+
+/// The line of a sparse image: its block in bytes, its blocks, and its chunks by their kinds.
+pub fn sparse_line(view: &SparseView, room: &mut [u8]) -> usize
+    requires { 1024 ≤ length room.old }
+    ensures { PutsLine (sparse_text view.now) room.new result }
+{
+    Line::headed("sparse")
+        .numbers(&[
+            ("block", u64::from(view.block)),
+            ("blocks", u64::from(view.blocks)),
+            ("chunks", u64::from(view.chunks)),
+            ("raw", u64::from(view.raw)),
+            ("fill", u64::from(view.fill)),
+            ("skip", u64::from(view.skip)),
+            ("crc", u64::from(view.crc)),
+        ])
+        .put(room)
 }
 
 /// The line of a demonstration: its seed, and the size, parts, ranges and units of its image.
