@@ -1,7 +1,12 @@
-ghost use Rattle.std.specs.Prelude.{◌≡◌, ℕ, ◌+◌, ◌≤◌, List, [], ◌++◌, length, take, drop, map, decimal, sum_by};
-ghost use Rattle.std.specs.List.{flat_map};
-ghost use Rattle.answer_lines.specs.Line.{PutsLine, shown_name, spelled, field_text, field_room, value_text};
+//! A line that is being made, part behind part.
+ghost use Rattle.std.specs.Prelude.{◌≡◌, ℕ, ◌+◌, ◌*◌, ◌≤◌, List, [], ◌++◌, length, take, decimal};
+ghost use Rattle.std.specs.Prelude.{sum_by, map};
+ghost use Rattle.hex.specs.Hex.{encode_lower};
+ghost use Rattle.answer_lines.specs.Line.{PutsLine, numbered, number_room, shown_flag, shown_name};
+ghost use Rattle.answer_lines.specs.Line.{spelled, with_fields};
+ghost use Rattle.answer_lines.specs.Row.{field_room, field_text};
 
+use crate::row::{Field, Value};
 use itoa::Buffer;
 use std::marker::Model;
 
@@ -10,22 +15,6 @@ pub const LINE_ROOM: usize = 1024;
 
 /// How many bytes of a name are shown.
 const NAME_ROOM: usize = 200;
-
-/// The value of a field as it is printed.
-#[derive(Clone, Copy)]
-pub enum Value<'a> {
-    /// A name, by its first 200 bytes.
-    Text(&'a str),
-    /// A number in decimal digits.
-    Number(u64),
-}
-
-/// A field of an answer.
-#[derive(Clone, Copy)]
-pub struct Field<'a> {
-    pub key: &'static str,
-    pub value: Value<'a>,
-}
 
 // What is shown of a name's bytes.
 fn first_bytes(bytes: &[u8]) -> &[u8]
@@ -38,7 +27,7 @@ fn first_bytes(bytes: &[u8]) -> &[u8]
     &bytes[..NAME_ROOM]
 }
 
-/// A line that is being made, of at most 1,024 bytes.
+/// A line that is being made, of at most 1,024 bytes. Contracts see its bytes.
 #[derive(Drop)]
 pub struct Line {
     bytes: [u8; LINE_ROOM],
@@ -54,67 +43,114 @@ impl Model for Line {
 }
 
 impl Line {
-    pub fn new() -> Line
-        ensures { result ≡ [] }
+    /// A line that begins so.
+    pub fn headed(head: &str) -> Line
+        requires { length head.now ≤ 1024 }
+        ensures { result ≡ head.now }
     {
-        Line {
+        let line = Line {
             bytes: [0; LINE_ROOM],
             len: 0,
-        }
+        };
+        line.with(head.as_bytes())
     }
 
-    /// Adds bytes at the end.
-    pub fn bytes(&mut self, bytes: &[u8])
-        requires { length self.old + length bytes.now ≤ 1024 }
-        ensures { self.new ≡ self.old ++ bytes.now }
+    /// The line with bytes at its end.
+    pub fn with(mut self, bytes: &[u8]) -> Line
+        requires { length self + length bytes.now ≤ 1024 }
+        ensures { result ≡ self ++ bytes.now }
     {
-        let end = self.len + bytes.len();
-        self.bytes[self.len..end].copy_from_slice(bytes);
+        let start = self.len;
+        let end = start + bytes.len();
+        self.bytes[start..end].copy_from_slice(bytes);
         self.len = end;
+        self
     }
 
-    /// Adds what is shown of a name.
-    pub fn name(&mut self, name: &str)
-        requires { length self.old + 200 ≤ 1024 }
-        ensures added { self.new ≡ self.old ++ shown_name name.now }
-        ensures room { length self.new ≤ length self.old + 200 }
+    /// The line with what is shown of a name at its end.
+    pub fn name(self, name: &str) -> Line
+        requires { length self + 200 ≤ 1024 }
+        ensures added { result ≡ self ++ shown_name name.now }
+        ensures room { length result ≤ length self + 200 }
     {
-        self.bytes(first_bytes(name.as_bytes()));
+        self.with(first_bytes(name.as_bytes()))
     }
 
-    /// Adds a number in decimal digits.
-    pub fn number(&mut self, n: u64)
-        requires { length self.old + 20 ≤ 1024 }
-        ensures added { self.new ≡ self.old ++ decimal n }
-        ensures room { length self.new ≤ length self.old + 20 }
+    // The line with a space, the key, `=` and the bytes of a value at its end.
+    fn pair(self, key: &str, value: &[u8]) -> Line
+        requires { length self + (length key.now + length value.now + 2) ≤ 1024 }
+        ensures { result ≡ self ++ spelled (key.now, value.now) }
     {
-        self.bytes(Buffer::new().format(n).as_bytes());
+        self.with(b" ").with(key.as_bytes()).with(b"=").with(value)
     }
 
-    /// Adds a space, the key, `=` and the value.
-    pub fn field(&mut self, field: Field<'_>)
-        requires { length self.old + field_room field ≤ 1024 }
-        ensures added { self.new ≡ self.old ++ spelled (field_text field.entry) }
-        ensures room { length self.new ≤ length self.old + field_room field.entry }
+    /// The line with a name behind its key, by its first 200 bytes.
+    pub fn text(self, key: &str, name: &str) -> Line
+        requires { length self + (length key.now + 202) ≤ 1024 }
+        ensures added { result ≡ self ++ spelled (key.now, shown_name name.now) }
+        ensures room { length result ≤ length self + (length key.now + 202) }
     {
-        self.bytes(b" ");
-        self.bytes(field.key.as_bytes());
-        self.bytes(b"=");
+        self.pair(key, first_bytes(name.as_bytes()))
+    }
+
+    /// The line with a number behind its key, in decimal digits.
+    pub fn number(self, key: &str, n: u64) -> Line
+        requires { length self + (length key.now + 22) ≤ 1024 }
+        ensures added { result ≡ self ++ spelled (key.now, decimal n) }
+        ensures room { length result ≤ length self + (length key.now + 22) }
+    {
+        self.pair(key, Buffer::new().format(n).as_bytes())
+    }
+
+    /// The line with a digest behind its key, in lower-case hexadecimal digits.
+    pub fn digest(self, key: &str, bytes: &[u8; 32]) -> Line
+        requires { length self + (length key.now + 66) ≤ 1024 }
+        ensures added { result ≡ self ++ spelled (key.now, encode_lower bytes.now) }
+        ensures room { length result ≤ length self + (length key.now + 66) }
+    {
+        let mut digits = [0; 64];
+        match hex::encode_to_slice(bytes.as_slice(), &mut digits) {
+            Ok(()) => self.pair(key, digits.as_slice()),
+            Err(_) => unreachable!(),
+        }
+    }
+
+    /// The line with a truth value behind its key, as 1 or 0.
+    pub fn flag(self, key: &str, holds: bool) -> Line
+        requires { length self + (length key.now + 3) ≤ 1024 }
+        ensures added { result ≡ self ++ spelled (key.now, shown_flag holds) }
+        ensures room { length result ≤ length self + (length key.now + 3) }
+    {
+        if holds {
+            self.pair(key, b"1")
+        } else {
+            self.pair(key, b"0")
+        }
+    }
+
+    /// The line with a field of an answer.
+    pub fn field(self, field: Field<'_>) -> Line
+        requires { length self + field_room field ≤ 1024 }
+        ensures added { result ≡ self ++ spelled (field_text field.entry) }
+        ensures room { length result ≤ length self + field_room field.entry }
+    {
         match field.value {
-            Value::Text(name) => self.name(name),
-            Value::Number(n) => self.number(n),
+            Value::Text(name) => self.text(field.key, name.text()),
+            Value::Number(n) => self.number(field.key, n),
+            Value::Digest(bytes) => self.digest(field.key, bytes),
         }
     }
 
-    /// Adds fields in their order.
-    pub fn fields(&mut self, fields: &[Field<'_>])
-        requires { length self.old + sum_by field_room fields.now ≤ 1024 }
-        ensures added { self.new ≡ self.old ++ flat_map spelled (map field_text fields.now) }
-        ensures room { length self.new ≤ length self.old + sum_by field_room fields.now }
+    /// The line with numbers behind their keys, in this order.
+    pub fn numbers(self, numbers: &[(&'static str, u64)]) -> Line
+        requires { length self + sum_by number_room numbers.now ≤ 1024 }
+        ensures { result ≡ with_fields self (map numbered numbers.now) }
     {
-        for field in fields {
-            self.field(*field);
+        let mut line = self;
+        for (key, n) in numbers {
+            line = line.number(key, *n);
         }
+        line
     }
 
     /// Puts the line at the front of the room, and gives its length.

@@ -13,6 +13,8 @@ use Rattle.clap.specs.Simple.{App, matches_of, new_rule, new_shape}
 use Rattle.clap.specs.Faults.{fault_of}
 use Rattle.clap.specs.Kinds.{Kinds}
 use Rattle.clap.specs.declared.builder.action.ArgAction.TheVariants.{Set, Append, SetTrue}
+use Rattle.job_words.specs.declared.arguments.Argument.{Argument}
+use Rattle.job_words.specs.declared.arguments.Argument.TheVariants.{Place, Repeated, Valued, Flag}
 
 -- a place that has to be there, and one that has one value or more
 unfoldable pub place_rule : Text → Rule
@@ -27,6 +29,13 @@ option_rule id = record (new_rule id) { long = Some id; action = Some Set }
 
 unfoldable pub flag_rule : Text → Rule
 flag_rule id = record (new_rule id) { long = Some id; action = Some SetTrue }
+
+-- an argument of the tables as a rule
+abbrev pub rule_of_argument : Argument → Rule
+rule_of_argument (Place id) = place_rule id.now
+rule_of_argument (Repeated id) = repeated_rule id.now
+rule_of_argument (Valued id) = option_rule id.now
+rule_of_argument (Flag id) = flag_rule id.now
 
 -- the simple command that has these arguments and nothing else, so neither help nor a version
 abbrev pub simple : List Rule → App

@@ -5,13 +5,12 @@ ghost use Rattle.clap.specs.Walk.{Row, Rule, all_of, first_of, rows_of, rule_of}
 ghost use Rattle.clap.specs.Simple.{app_of};
 ghost use Rattle.clap.specs.Matches.{found_of};
 ghost use Rattle.clap.specs.Faults.{is_simple_and_free};
-ghost use Rattle.job_words.specs.Arguments.{flag_rule, option_rule, place_rule, repeated_rule};
 ghost use Rattle.job_words.specs.Arguments.{simple, taken, text_at, is_set, is_between};
-ghost use Rattle.job_words.specs.Arguments.{is_power_between, number_or};
+ghost use Rattle.job_words.specs.Arguments.{is_power_between, number_or, numeral_of};
 ghost use Rattle.job_words.specs.Jobs.{Reads};
 
 use crate::WordFault;
-use crate::numbers::{number_between, power_between};
+use crate::numbers::{number, number_between, power_between};
 use base_fields::{Name, NoMemory};
 use clap::error::ErrorKind;
 use clap::{Arg, ArgAction, ArgMatches, Command};
@@ -43,47 +42,8 @@ impl<'a> Arguments<'a> {
         Arguments { alloc, command }
     }
 
-    /// One more place, which has to be there.
-    #[tactic(auto, unfolding(crate::specs::Arguments::place_rule))]
-    pub(crate) fn place(self, id: &'a str) -> Result<Arguments<'a>, AllocError>
-        ensures { IfOk result (λ r. r ≡ self.entry ++ place_rule id.entry.now ∷ []) }
-    {
-        let arg = Arg::new(self.alloc, id)
-            .action(ArgAction::Set)
-            .required(true);
-        self.with(arg)
-    }
-
-    /// The last place, which has one value or more.
-    #[tactic(auto, unfolding(crate::specs::Arguments::repeated_rule))]
-    pub(crate) fn repeated(self, id: &'a str) -> Result<Arguments<'a>, AllocError>
-        ensures { IfOk result (λ r. r ≡ self.entry ++ repeated_rule id.entry.now ∷ []) }
-    {
-        let arg = Arg::new(self.alloc, id)
-            .action(ArgAction::Append)
-            .required(true);
-        self.with(arg)
-    }
-
-    /// One more option with a value, `--id VALUE`.
-    #[tactic(auto, unfolding(crate::specs::Arguments::option_rule))]
-    pub(crate) fn option(self, id: &'a str) -> Result<Arguments<'a>, AllocError>
-        ensures { IfOk result (λ r. r ≡ self.entry ++ option_rule id.entry.now ∷ []) }
-    {
-        let arg = Arg::new(self.alloc, id).long(id).action(ArgAction::Set);
-        self.with(arg)
-    }
-
-    /// One more flag, `--id`.
-    #[tactic(auto, unfolding(crate::specs::Arguments::flag_rule))]
-    pub(crate) fn flag(self, id: &'a str) -> Result<Arguments<'a>, AllocError>
-        ensures { IfOk result (λ r. r ≡ self.entry ++ flag_rule id.entry.now ∷ []) }
-    {
-        let arg = Arg::new(self.alloc, id).long(id).action(ArgAction::SetTrue);
-        self.with(arg)
-    }
-
-    fn with(self, arg: Arg<'a>) -> Result<Arguments<'a>, AllocError>
+    /// One argument more.
+    pub(crate) fn with(self, arg: Arg<'a>) -> Result<Arguments<'a>, AllocError>
         requires { arg.global ≡ false }
         ensures { IfOk result (λ r. r ≡ self.entry ++ rule_of arg.entry ∷ []) }
     {
@@ -166,24 +126,42 @@ impl<'a> Given<'a> {
         }
     }
 
-    /// The number of an option, which has to be a power of two from `least` to `most`.
-    pub(crate) fn power(&self, id: &str, default: u32, least: u32, most: u32) -> Option<u32>
-        ensures { result
-            ≡ number_or default (is_power_between least most) (first_of id.now self.now) }
+    /// The number at a place.
+    pub(crate) fn number(&self, id: &str) -> Result<u64, WordFault>
+        ensures { Reads (numeral_of (text_at id.now self.now)) result }
+    {
+        number(self.place(id)).ok_or(WordFault::Usage)
+    }
+
+    /// The number of an option, which has to be a power of two from `least` to `most`, or else its default.
+    pub(crate) fn power(
+        &self,
+        id: &str,
+        default: u32,
+        least: u32,
+        most: u32,
+    ) -> Result<u32, WordFault>
+        ensures { Reads (number_or default (is_power_between least most) (first_of id.now self.now)) result }
     {
         match self.text(id) {
-            Some(text) => power_between(text, least, most),
-            None => Some(default),
+            Some(text) => power_between(text, least, most).ok_or(WordFault::Usage),
+            None => Ok(default),
         }
     }
 
-    /// The number of an option, which has to be from `least` to `most`.
-    pub(crate) fn count(&self, id: &str, default: u32, least: u32, most: u32) -> Option<u32>
-        ensures { result ≡ number_or default (is_between least most) (first_of id.now self.now) }
+    /// The number of an option, which has to be from `least` to `most`, or else its default.
+    pub(crate) fn count(
+        &self,
+        id: &str,
+        default: u32,
+        least: u32,
+        most: u32,
+    ) -> Result<u32, WordFault>
+        ensures { Reads (number_or default (is_between least most) (first_of id.now self.now)) result }
     {
         match self.text(id) {
-            Some(text) => number_between(text, least, most),
-            None => Some(default),
+            Some(text) => number_between(text, least, most).ok_or(WordFault::Usage),
+            None => Ok(default),
         }
     }
 }

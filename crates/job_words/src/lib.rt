@@ -41,6 +41,3 @@ fn read_by(verb: Verb, alloc: Global, words: &[String]) -> Result<Job, WordFault
     let given = arguments.read(words)?;
     values::job(verb, alloc, &given)
 }
-
-#[cfg(test)]
-mod tests;

@@ -1,13 +1,12 @@
 //! The job of each command, from what its arguments are given.
 ghost use Rattle.std.specs.Prelude.{◌≡◌};
-ghost use Rattle.job_words.specs.Jobs.{Reads, block_of, build_from, copy_from, cut_from, demo_from};
-ghost use Rattle.job_words.specs.Jobs.{ends_differ, erase_block_of, expand_from, forget_from};
+ghost use Rattle.job_words.specs.Jobs.{Reads, build_from, copy_from, cut_from, demo_from};
+ghost use Rattle.job_words.specs.Jobs.{ends_differ, expand_from, forget_from};
 ghost use Rattle.job_words.specs.Jobs.{gang_from, gang_resume_from, job_from};
-ghost use Rattle.job_words.specs.Jobs.{list_from, map_from, nand_from, nand_places_differ, page_of};
-ghost use Rattle.job_words.specs.Jobs.{pairs_from, resume_from, unit_of, verify_from, window_of};
+ghost use Rattle.job_words.specs.Jobs.{list_from, map_from, nand_from, nand_places_differ};
+ghost use Rattle.job_words.specs.Jobs.{pairs_from, resume_from, unit_of, verify_from};
 
 use crate::given::Given;
-use crate::numbers::number;
 use crate::places::{are_distinct, are_expandable, are_gang, names_of, pairs_of};
 use crate::verbs::Verb;
 use crate::{Job, WordFault};
@@ -26,7 +25,7 @@ pub(crate) fn job(verb: Verb, alloc: Global, given: &Given<'_>) -> Result<Job, W
         Verb::Forget => forget(alloc, given),
         Verb::Verify => verify(alloc, given),
         Verb::List => list(alloc, given),
-        Verb::Demo => demo(alloc, given),
+        Verb::Demo => demo(given),
         Verb::Gang => gang(alloc, given),
         Verb::GangResume => gang_resume(alloc, given),
         Verb::Cut => cut(alloc, given),
@@ -48,7 +47,7 @@ fn build(alloc: Global, given: &Given<'_>) -> Result<Job, WordFault>
 fn map(alloc: Global, given: &Given<'_>) -> Result<Job, WordFault>
     ensures { Reads (map_from given.now) result }
 {
-    let block = block(given).ok_or(WordFault::Usage)?;
+    let block = given.power("block", 4096, 512, 65_536)?;
     Ok(Job::Map {
         conf: given.name(alloc, "CONF")?,
         image: given.name(alloc, "IMAGE")?,
@@ -65,8 +64,8 @@ fn copy(alloc: Global, given: &Given<'_>) -> Result<Job, WordFault>
     if !ends_are_distinct(given) {
         return Err(WordFault::Usage);
     }
-    let unit = unit(given).ok_or(WordFault::Usage)?;
-    let window = window(given).ok_or(WordFault::Usage)?;
+    let unit = unit(given)?;
+    let window = given.count("window", 1, 1, 16)?;
     Ok(Job::Copy {
         source: given.name(alloc, "SOURCE")?,
         map: given.name(alloc, "MAP")?,
@@ -84,7 +83,7 @@ fn resume(alloc: Global, given: &Given<'_>) -> Result<Job, WordFault>
     if !ends_are_distinct(given) {
         return Err(WordFault::Usage);
     }
-    let unit = unit(given).ok_or(WordFault::Usage)?;
+    let unit = unit(given)?;
     Ok(Job::Resume {
         source: given.name(alloc, "SOURCE")?,
         map: given.name(alloc, "MAP")?,
@@ -123,19 +122,18 @@ fn list(alloc: Global, given: &Given<'_>) -> Result<Job, WordFault>
     })
 }
 
-fn demo(_alloc: Global, given: &Given<'_>) -> Result<Job, WordFault>
+fn demo(given: &Given<'_>) -> Result<Job, WordFault>
     ensures { Reads (demo_from given.now) result }
 {
-    match number(given.place("SEED")) {
-        Some(seed) => Ok(Job::Demo { seed }),
-        None => Err(WordFault::Usage),
-    }
+    Ok(Job::Demo {
+        seed: given.number("SEED")?,
+    })
 }
 
 fn gang(alloc: Global, given: &Given<'_>) -> Result<Job, WordFault>
     ensures { Reads (gang_from given.now) result }
 {
-    let unit = unit(given).ok_or(WordFault::Usage)?;
+    let unit = unit(given)?;
     let pairs = pairs(alloc, given)?;
     Ok(Job::Gang {
         source: given.name(alloc, "SOURCE")?,
@@ -148,7 +146,7 @@ fn gang(alloc: Global, given: &Given<'_>) -> Result<Job, WordFault>
 fn gang_resume(alloc: Global, given: &Given<'_>) -> Result<Job, WordFault>
     ensures { Reads (gang_resume_from given.now) result }
 {
-    let unit = unit(given).ok_or(WordFault::Usage)?;
+    let unit = unit(given)?;
     let pairs = pairs(alloc, given)?;
     Ok(Job::GangResume {
         source: given.name(alloc, "SOURCE")?,
@@ -161,7 +159,7 @@ fn gang_resume(alloc: Global, given: &Given<'_>) -> Result<Job, WordFault>
 fn cut(alloc: Global, given: &Given<'_>) -> Result<Job, WordFault>
     ensures { Reads (cut_from given.now) result }
 {
-    let size = number(given.place("SIZE")).ok_or(WordFault::Usage)?;
+    let size = given.number("SIZE")?;
     Ok(Job::Cut {
         image: given.name(alloc, "IMAGE")?,
         prefix: given.name(alloc, "PREFIX")?,
@@ -188,8 +186,8 @@ fn nand(alloc: Global, given: &Given<'_>) -> Result<Job, WordFault>
     if !nand_places_are_distinct(given) {
         return Err(WordFault::Usage);
     }
-    let block = erase_block(given).ok_or(WordFault::Usage)?;
-    let page = page(given).ok_or(WordFault::Usage)?;
+    let block = given.power("block", 131_072, 1, 4_194_304)?;
+    let page = given.power("page", 2048, 512, 16_384)?;
     if page > block {
         return Err(WordFault::Usage);
     }
@@ -213,39 +211,11 @@ fn pairs(alloc: Global, given: &Given<'_>) -> Result<List<Pair>, WordFault>
     Ok(pairs_of(alloc, places)?)
 }
 
-// The block of a map in bytes.
-fn block(given: &Given<'_>) -> Option<u32>
-    ensures { result ≡ block_of given.now }
-{
-    given.power("block", 4096, 512, 65_536)
-}
-
 // The unit of a copy in bytes.
-fn unit(given: &Given<'_>) -> Option<u32>
-    ensures { result ≡ unit_of given.now }
+fn unit(given: &Given<'_>) -> Result<u32, WordFault>
+    ensures { Reads (unit_of given.now) result }
 {
     given.power("unit", 1_048_576, 65_536, 4_194_304)
-}
-
-// How many units of a copy may be under way.
-fn window(given: &Given<'_>) -> Option<u32>
-    ensures { result ≡ window_of given.now }
-{
-    given.count("window", 1, 1, 16)
-}
-
-// The erase block of a NAND device in bytes.
-fn erase_block(given: &Given<'_>) -> Option<u32>
-    ensures { result ≡ erase_block_of given.now }
-{
-    given.power("block", 131_072, 1, 4_194_304)
-}
-
-// The page of a NAND device in bytes.
-fn page(given: &Given<'_>) -> Option<u32>
-    ensures { result ≡ page_of given.now }
-{
-    given.power("page", 2048, 512, 16_384)
 }
 
 // Whether no two places of a copy are equal.
