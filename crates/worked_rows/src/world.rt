@@ -1,0 +1,30 @@
+//! What the steps of a scenario act on.
+use crate::shelf::Shelf;
+use base_fields::List;
+use conf_sections::Vars;
+use std::alloc::Global;
+
+/// The objects in memory.
+#[derive(Debug, Drop)]
+pub struct World {
+    pub alloc: Global,
+    pub files: Shelf,
+    /// Whether a call reads at most one byte of a file.
+    pub trickles: bool,
+    /// The first value of a name counts.
+    pub vars: Vars,
+    /// The lines of the next run that fail, from 0.
+    pub failing_lines: Vec<u64>,
+}
+
+impl World {
+    pub fn new(alloc: Global) -> World {
+        World {
+            alloc,
+            files: Shelf::new(alloc),
+            trickles: false,
+            vars: List::new(alloc),
+            failing_lines: Vec::new(alloc),
+        }
+    }
+}
