@@ -10,7 +10,10 @@ use std::alloc::Global;
 #[derive(Debug, Drop)]
 pub enum FileStep {
     /// Makes or replaces a file.
-    Put { name: String, contents: Contents },
+    Put {
+        name: String,
+        contents: Contents,
+    },
     /// Puts bytes over those from a place on, past the end too.
     Change {
         name: String,
@@ -18,18 +21,41 @@ pub enum FileStep {
         contents: Contents,
     },
     /// Cuts a file, or lengthens it by zeros.
-    Length { name: String, len: usize },
-    Remove { name: String },
+    Length {
+        name: String,
+        len: usize,
+    },
+    Remove {
+        name: String,
+    },
     Names,
     /// Shows at most so many bytes from a place on.
-    Show { name: String, at: usize, len: usize },
-    Variable { name: String, value: String },
+    Show {
+        name: String,
+        at: usize,
+        len: usize,
+    },
+    /// Whether two files are equal, or the first place at which they aren't.
+    Compare {
+        name: String,
+        other: String,
+    },
+    Variable {
+        name: String,
+        value: String,
+    },
     /// Lets a call of the files fail. The next one is number 0.
-    FailFiles { call: u64 },
+    FailFiles {
+        call: u64,
+    },
     /// Lets a line of the next run fail. The first one is number 0.
-    FailLine { line: u64 },
+    FailLine {
+        line: u64,
+    },
     /// Whether a call reads at most one byte.
-    Trickle { on: bool },
+    Trickle {
+        on: bool,
+    },
 }
 
 impl FileStep {
@@ -43,6 +69,10 @@ impl FileStep {
             },
             "names" => FileStep::Names,
             "show" => read_show(words)?,
+            "compare" => FileStep::Compare {
+                name: words.text("a file")?,
+                other: words.text("a file")?,
+            },
             "var" => read_variable(words)?,
             "fail-files" => FileStep::FailFiles {
                 call: words.number("a call")?,
@@ -66,6 +96,7 @@ impl FileStep {
             FileStep::Remove { name } => remove(world, &name),
             FileStep::Names => names(world),
             FileStep::Show { name, at, len } => show(world, &name, at, len),
+            FileStep::Compare { name, other } => compare(world, &name, &other),
             FileStep::Variable { name, value } => add_variable(world, &name, &value),
             FileStep::FailFiles { call } => fail_files(world, call),
             FileStep::FailLine { line } => fail_line(world, line),
@@ -119,7 +150,7 @@ pub fn done(alloc: Global) -> Result<String> {
 }
 
 /// Puts a file, and says its length.
-fn store(world: &mut World, name: &str, bytes: &[u8]) -> Result<String> {
+pub fn store(world: &mut World, name: &str, bytes: &[u8]) -> Result<String> {
     world.files.put(name, bytes)?;
     let len = bytes.len();
     Ok(format!(in world.alloc; "file {name} has {len} bytes")?)
@@ -179,6 +210,19 @@ fn show(world: &World, name: &str, at: usize, len: usize) -> Result<String> {
         }
         None => Ok(format!(in world.alloc; "{name}: no file")?),
     }
+}
+
+fn compare(world: &World, name: &str, other: &str) -> Result<String> {
+    let (Some(bytes), Some(others)) = (world.files.bytes(name), world.files.bytes(other)) else {
+        bail!("no such file");
+    };
+    if bytes == others {
+        return Ok(String::from_str(world.alloc, "equal")?);
+    }
+    let mut pairs = bytes.iter().zip(others);
+    let at = pairs.position(|(byte, other)| byte != other);
+    let at = at.unwrap_or(bytes.len().min(others.len()));
+    Ok(format!(in world.alloc; "differ at {at}")?)
 }
 
 fn add_variable(world: &mut World, name: &str, value: &str) -> Result<String> {

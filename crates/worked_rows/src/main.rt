@@ -4,11 +4,19 @@
 
 mod arguments;
 mod contents;
+mod cover_steps;
 mod file_steps;
 mod playing;
+mod run_steps;
 mod shelf;
 mod showing;
+mod shown_conf;
+mod shown_graph;
+mod sparse_steps;
 mod steps;
+mod table_steps;
+mod text_steps;
+mod value_steps;
 mod words;
 mod world;
 

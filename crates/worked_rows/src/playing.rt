@@ -23,12 +23,7 @@ pub fn play<R: BufRead, W: Write>(alloc: Global, input: &mut R, out: &mut W) -> 
 }
 
 /// An empty line, and one that begins with `#`, is no step and prints nothing.
-fn play_line<W: Write>(
-    world: &mut World,
-    number: u64,
-    line: &[u8],
-    out: &mut W,
-) -> io::Result<()> {
+fn play_line<W: Write>(world: &mut World, number: u64, line: &[u8], out: &mut W) -> io::Result<()> {
     let text = line.trim_ascii();
     if text.is_empty() || text.starts_with(b"#") {
         return Ok(());

@@ -1,6 +1,12 @@
 //! The steps of a scenario.
 use crate::arguments::Arguments;
+use crate::cover_steps::CoverStep;
 use crate::file_steps::FileStep;
+use crate::run_steps::RunStep;
+use crate::sparse_steps::SparseStep;
+use crate::table_steps::TableStep;
+use crate::text_steps::TextStep;
+use crate::value_steps::ValueStep;
 use crate::world::World;
 use anyhow::{Result, bail};
 use std::alloc::Global;
@@ -11,6 +17,12 @@ pub enum Step {
     /// Begins again, with a title.
     New(Vec<String>),
     Files(FileStep),
+    Run(RunStep),
+    Texts(TextStep),
+    Cover(CoverStep),
+    Sparse(SparseStep),
+    Tables(TableStep),
+    Values(ValueStep),
 }
 
 impl Step {
@@ -23,6 +35,24 @@ impl Step {
         if let Some(step) = FileStep::read(alloc, &verb, words)? {
             return Ok(Step::Files(step));
         }
+        if let Some(step) = RunStep::read(&verb, words)? {
+            return Ok(Step::Run(step));
+        }
+        if let Some(step) = TextStep::read(alloc, &verb, words)? {
+            return Ok(Step::Texts(step));
+        }
+        if let Some(step) = CoverStep::read(alloc, &verb, words)? {
+            return Ok(Step::Cover(step));
+        }
+        if let Some(step) = SparseStep::read(&verb, words)? {
+            return Ok(Step::Sparse(step));
+        }
+        if let Some(step) = TableStep::read(alloc, &verb, words)? {
+            return Ok(Step::Tables(step));
+        }
+        if let Some(step) = ValueStep::read(alloc, &verb, words)? {
+            return Ok(Step::Values(step));
+        }
         bail!("no such step: {verb}")
     }
 
@@ -31,6 +61,12 @@ impl Step {
         match self {
             Step::New(title) => begin(world, &title),
             Step::Files(step) => step.play(world),
+            Step::Run(step) => step.play(world),
+            Step::Texts(step) => step.play(world),
+            Step::Cover(step) => step.play(world),
+            Step::Sparse(step) => step.play(world),
+            Step::Tables(step) => step.play(world),
+            Step::Values(step) => step.play(world),
         }
     }
 }

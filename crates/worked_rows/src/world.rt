@@ -2,6 +2,7 @@
 use crate::shelf::Shelf;
 use base_fields::List;
 use conf_sections::Vars;
+use span_cover::Cover;
 use std::alloc::Global;
 
 /// The objects in memory.
@@ -15,6 +16,7 @@ pub struct World {
     pub vars: Vars,
     /// The lines of the next run that fail, from 0.
     pub failing_lines: Vec<u64>,
+    pub cover: Cover,
 }
 
 impl World {
@@ -25,6 +27,7 @@ impl World {
             trickles: false,
             vars: List::new(alloc),
             failing_lines: Vec::new(alloc),
+            cover: Cover::new(alloc),
         }
     }
 }
