@@ -4,5 +4,9 @@ mod CrcTable
 mod Guid
 mod Multiples
 mod Writes
+pub mod Between
+pub mod Binds
 pub mod FieldRuns
 pub mod Images
+pub mod PartBytes
+pub mod Rounding

@@ -3,3 +3,5 @@ pub use Rattle.byteorder.specs.Endian
 pub mod Crc
 pub mod Fields
 pub mod Numbers
+pub mod Parts
+pub mod Results

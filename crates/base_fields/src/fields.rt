@@ -28,6 +28,14 @@ pub fn put_u64(room: &mut [u8], at: usize, value: u64)
     LittleEndian::write_u64(&mut room[at..], value);
 }
 
+/// Writes bytes at `at`.
+pub fn put_bytes(room: &mut [u8], at: usize, bytes: &[u8])
+    requires { at + length bytes.now ≤ length room.old }
+    ensures { room.new ≡ written room.old at bytes.now }
+{
+    room[at..at + bytes.len()].copy_from_slice(bytes);
+}
+
 /// The number of two bytes at `at`, the lowest byte first.
 pub fn get_u16(bytes: &[u8], at: usize) -> u16
     requires { at + 2 ≤ length bytes.now }

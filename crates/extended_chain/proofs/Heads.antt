@@ -1,6 +1,6 @@
 -- The sectors of records that ascend.
-use Rattle.std.specs.Prelude.{◌≡◌, ℕ, zero, suc, ◌+◌, ◌<◌, ◌≤◌, List, length}
-use Rattle.std.proofs.Common.{arith, add-one, inl, inr}
+use Rattle.std.specs.Prelude.{◌≡◌, ℕ, zero, suc, ◌+◌, ◌<◌, ◌≤◌, List, ◌∷◌, length}
+use Rattle.std.proofs.Common.{arith, add-one, inl, inr, subst}
 use Rattle.std.proofs.lemmas.Bool.{cases_lt}
 use Rattle.extended_chain.specs.Chain.{Ascends, logical_of}
 use Rattle.extended_chain.specs.declared.chain.LogicalSpec.{LogicalSpec}
@@ -15,3 +15,13 @@ heads_rise specs j (suc k) ascends h inside = elim (cases_lt k j) [
       let here : (logical_of specs k).head < (logical_of specs (k + 1)).head = ascends.rises k (omega arith) in
       rw (← add-one k) (omega (arith, before, here))
 ]
+
+-- the records behind the first
+pub ascends_rest : (s : LogicalSpec) (specs : List LogicalSpec) → Ascends (s ∷ specs) → Ascends specs
+ascends_rest s specs ascends =
+    let next : (k : ℕ) → suc k + 1 ≡ suc (k + 1) = λ k. omega arith in
+    record {
+      ahead = λ k h. ascends.ahead (suc k) (omega arith);
+      rises = λ k h. subst (λ (n : ℕ). (logical_of specs k).head < (logical_of (s ∷ specs) n).head) (next k) (ascends.rises (suc k) (omega arith));
+      fits = λ k h. ascends.fits (suc k) (omega arith);
+    }

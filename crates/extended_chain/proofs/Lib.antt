@@ -1,4 +1,6 @@
 -- lemmas
-mod Heads
 mod Bytes
+pub mod ExtendedReads
+pub mod Heads
+pub mod Held
 pub mod ReadsBack

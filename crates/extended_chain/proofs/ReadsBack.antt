@@ -10,6 +10,7 @@ use Rattle.base_fields.proofs.FieldRuns.{byte_of-run, run_passes}
 use Rattle.mbr_table.proofs.SlotReads.{same_entry, slot_reads}
 use Rattle.base_fields.proofs.Images.{Has, part_of}
 use Rattle.mbr_table.specs.declared.mbr.MbrEntry.{MbrEntry}
+use Rattle.extended_chain.proofs.Heads.{ascends_rest}
 use Rattle.extended_chain.specs.Chain.{Ascends, boot_fields, link_to, logical_of, own_entry}
 use Rattle.extended_chain.specs.ChainReading.{ChainFrom, ChainReadsBack, LogicalFits, RecordReads, link_at, logical_entry, own_at}
 use Rattle.extended_chain.specs.declared.chain.LogicalSpec.{LogicalSpec}
@@ -83,11 +84,7 @@ records_rest image start s specs all =
     let next : (k : ℕ) → suc k + 1 ≡ suc (k + 1) = λ k. omega arith in
     record {
       each = λ k h. all.each (suc k) (omega arith);
-      ascends = record {
-        ahead = λ k h. all.ascends.ahead (suc k) (omega arith);
-        rises = λ k h. subst (λ (n : ℕ). (logical_of specs k).head < (logical_of (s ∷ specs) n).head) (next k) (all.ascends.rises (suc k) (omega arith));
-        fits = λ k h. all.ascends.fits (suc k) (omega arith);
-      };
+      ascends = ascends_rest s specs all.ascends;
       holds = λ k h. subst (λ (n : ℕ). HoldsRecord image start (logical_of specs k) (slice_get (s ∷ specs) n)) (next k) (all.holds (suc k) (omega arith));
     }
 

@@ -1,6 +1,7 @@
 -- The boot records of the logical partitions, each a sector, as fields at their offsets in that sector.
-use Rattle.std.specs.Prelude.{ℕ, ◌+◌, ◌-◌, ◌^◌, ◌<◌, List, [], ◌∷◌, ◌++◌, false, Option, None, Some, length, slice_get, slice_index_or}
-use Rattle.base_fields.specs.Fields.{Field}
+use Rattle.std.specs.Prelude.{ℕ, ◌+◌, ◌-◌, ◌*◌, ◌^◌, ◌<◌, List, [], ◌∷◌, ◌++◌, false, Option, None, Some, length, slice_get, slice_index_or}
+use Rattle.base_fields.specs.Fields.{Field, byte_of}
+use Rattle.base_fields.specs.Parts.{Part}
 use Rattle.mbr_table.specs.Mbr.{entry_fields, no_entry, mark}
 use Rattle.mbr_table.specs.declared.mbr.MbrEntry.{MbrEntry}
 use Rattle.extended_chain.specs.declared.chain.LogicalSpec.{LogicalSpec}
@@ -39,6 +40,18 @@ boot_fields start s next =
 -- the fields of the record number k, from 0
 abbrev pub record_fields : List LogicalSpec → ℕ → List Field
 record_fields specs k = boot_fields (start_of specs) (logical_of specs k) (slice_get specs (k + 1))
+
+-- the part of a disk that a record has: its whole sector
+abbrev pub record_part : ℕ → LogicalSpec → Option LogicalSpec → Part
+record_part start s next = record { at = 512 * s.head; len = 512; byte = λ o. byte_of (boot_fields start s next) o }
+
+-- the parts of the records of these partitions, each with the partition behind it
+abbrev pub record_parts : ℕ → List LogicalSpec → List Part
+record_parts start [] = []
+record_parts start (s ∷ specs) = record_part start s (slice_get specs 0) ∷ record_parts start specs
+
+abbrev pub chain_parts : List LogicalSpec → List Part
+chain_parts specs = record_parts (start_of specs) specs
 
 -- each record stands before its partition and before the next record, and the sectors from it to the end of
 -- its partition fit a field

@@ -1,7 +1,8 @@
 ghost use Rattle.std.specs.Prelude.{◌≡◌, ℕ, ◌+◌, ◌^◌, ◌<◌, ◌≤◌, length, slice_get, slice_index, Some};
-ghost use Rattle.base_fields.specs.Fields.{byte_of, written, joined};
+ghost use Rattle.base_fields.specs.Fields.{byte_of, joined};
 ghost use Rattle.extended_chain.specs.Chain.{Ascends, link_to, own_entry, record_fields, start_of};
 
+use base_fields::put_bytes;
 use mbr_table::{MARK, MbrEntry, put_entry};
 
 /// The type of an entry that leads to the next record.
@@ -71,14 +72,6 @@ fn entries_bytes(specs: &[LogicalSpec], k: usize) -> [u8; 66]
     put_entry(&mut bytes, 16, specs[0].head, &second_entry(specs, k));
     bytes[64..].copy_from_slice(&MARK);
     bytes
-}
-
-/// Writes bytes at `at`.
-fn put_bytes(room: &mut [u8], at: usize, bytes: &[u8])
-    requires { at + length bytes.now ≤ length room.old }
-    ensures { room.new ≡ written room.old at bytes.now }
-{
-    room[at..at + bytes.len()].copy_from_slice(bytes);
 }
 
 /// The boot record of the logical partition number `k`, counted from 0: the 512 bytes of its sector.

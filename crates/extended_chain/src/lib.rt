@@ -2,10 +2,9 @@
 #![tactic(auto)]
 
 mod chain;
+mod extended;
 mod laws;
 
 pub use chain::{LogicalSpec, record_bytes};
-pub use laws::chain_reads_back;
-
-#[cfg(test)]
-mod tests;
+pub use extended::extended_entry;
+pub use laws::{chain_reads_back, extended_reads_back};

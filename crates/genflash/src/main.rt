@@ -4,8 +4,9 @@
 
 use answer_lines::{Answer, error_line};
 use base_fields::{List, Name, Pair};
+use host_files::{HostFiles, HostPrinter};
 use image_jobs::{Vars, run};
-use outside::{HostFiles, HostPrinter, Printer};
+use outside::Printer;
 use std::env::VarError;
 use std::process::ExitCode;
 use std::{env, io};

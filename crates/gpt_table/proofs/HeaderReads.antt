@@ -90,13 +90,14 @@ header_sum-fits : (h : GptHeader) → header_sum h < 2 ^ 32
 unfolding header_sum
 header_sum-fits h = crc32_of-fits (bytes_at (byte_of (header_fields h 0)) 0 92)
 
--- an image that has the bytes of a header in its place, and those of its entries in theirs
-pub header_reads : (image : ℕ → ℕ) (z : ℕ) (h : GptHeader) (entries : List GptEntry) → HeaderFits h → h.entries_at ≢ 0 → h.entries_sum ≡ sum_of_entries entries → ((k : ℕ) → k < length entries → EntryFits (slot_of entries k)) → Has image (h.own * z) (joined (header_fields h (header_sum h))) → ((i : ℕ) → i < 16384 → image (h.entries_at * z + i) ≡ entries_byte entries i) → ReadsHeader image z h (slot_of entries)
-header_reads image z h entries fits nonzero sum each has same =
+-- an image that has the bytes of a header in its place, and those of its entries in theirs, both inside its length
+pub header_reads : (image : ℕ → ℕ) (len z : ℕ) (h : GptHeader) (entries : List GptEntry) → h.own * z + 92 ≤ len → h.entries_at * z + 16384 ≤ len → HeaderFits h → h.entries_at ≢ 0 → h.entries_sum ≡ sum_of_entries entries → ((k : ℕ) → k < length entries → EntryFits (slot_of entries k)) → Has image (h.own * z) (joined (header_fields h (header_sum h))) → ((i : ℕ) → i < 16384 → image (h.entries_at * z + i) ≡ entries_byte entries i) → ReadsHeader image len z h (slot_of entries)
+header_reads image len z h entries inside entries_inside fits nonzero sum each has same =
     let o : ℕ = h.own * z in
     let held : Held image o (header_fields h (header_sum h)) = held_run image o 0 (header_fields h (header_sum h)) (header_run h (header_sum h) fits.disk) (at_zero image o (joined (header_fields h (header_sum h))) has) in
     let from_count = held.1.1.1.1.1.1.1.1.1.1.1 in
     record {
+      inside = inside;
       signature = bytes_read image o 8 (codes "EFI PART") refl (from_zero image o (codes "EFI PART") held.0);
       revision = bytes_read image (o + 8) 4 (0 ∷ 0 ∷ 1 ∷ 0 ∷ []) refl held.1.0;
       size = number_reads image (o + 12) 4 92 (omega arith) held.1.1.0;
@@ -106,6 +107,7 @@ header_reads image z h entries fits nonzero sum each has same =
       has_entries = nonzero;
       slot_count = number_reads image (o + 80) 4 128 (omega arith) from_count.0;
       slot_size = number_reads image (o + 84) 4 128 (omega arith) from_count.1.0;
+      entries_inside = entries_inside;
       entries_sum = sum ∙ entries_read image (h.entries_at * z) entries same;
       slots = slots_read image (h.entries_at * z) entries each same;
     }

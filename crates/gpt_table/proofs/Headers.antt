@@ -1,5 +1,5 @@
 -- The bytes of a header.
-use Rattle.std.specs.Prelude.{◌≡◌, ℕ, ◌-◌, List, ◌++◌, length, get_or, replicate}
+use Rattle.std.specs.Prelude.{◌≡◌, ℕ, ◌-◌, ◌≤◌, List, ◌++◌, Bool, true, false, if◌then◌else◌, length, get_or, replicate}
 use Rattle.std.proofs.Common.{refl, ◌∙◌, sym, ap, arith}
 use Rattle.std.proofs.lemmas.Grind.{common_steps}
 use Rattle.std.proofs.Common.{inl, inr}
@@ -8,11 +8,16 @@ use Rattle.std.proofs.lemmas.List.{get_or_append_left, get_or-append_right, get_
 use Rattle.base_fields.specs.Crc.{crc32_of}
 use Rattle.base_fields.specs.Fields.{byte_of, joined}
 use Rattle.gpt_table.specs.Span.{bytes_at}
-use Rattle.gpt_table.specs.Gpt.{header_byte, header_fields, header_sum}
+use Rattle.gpt_table.specs.Gpt.{back_byte, back_header, front_byte, front_header, header_byte, header_fields, header_sum}
+use Rattle.gpt_table.specs.declared.table.GptSpec.{GptSpec}
 use Rattle.gpt_table.specs.declared.header.GptHeader.{GptHeader}
 use Rattle.base_fields.proofs.FieldRuns.{IsRun, byte_of-run, byte_of-start}
 use Rattle.gpt_table.proofs.Slots.{length-guid, zeros_are_zero}
 use Rattle.gpt_table.proofs.Spans.{bytes_at-is}
+
+none_either : {n : ℕ} (b : Bool) → n ≡ 0 → (if b then n else 0) ≡ 0
+none_either true none = none
+none_either false none = refl
 
 pub header_run : (h : GptHeader) (sum : ℕ) → length h.disk ≡ 16 → IsRun 0 (header_fields h sum)
 header_run h sum sixteen =
@@ -29,6 +34,19 @@ pub header_byte_of : (h : GptHeader) (sum o : ℕ) → length h.disk ≡ 16 → 
 header_byte_of h sum o sixteen =
     byte_of-start (header_fields h sum) o (header_run h sum sixteen)
 
+-- behind its 92 bytes a header's sector is zeros
+pub header_byte-past : (h : GptHeader) (o : ℕ) → length h.disk ≡ 16 → 92 ≤ o → header_byte h o ≡ 0
+unfolding header_byte
+header_byte-past h o sixteen past =
+    let long = length-header h (header_sum h) sixteen in
+    header_byte_of h (header_sum h) o sixteen ∙ get_or_past (joined (header_fields h (header_sum h))) o 0 (omega arith)
+
+pub front_byte-past : (spec : GptSpec) (o : ℕ) → length spec.disk ≡ 16 → 92 ≤ o → front_byte spec o ≡ 0
+front_byte-past spec o sixteen past = header_byte-past (front_header spec) o sixteen past
+
+pub back_byte-past : (spec : GptSpec) (o : ℕ) → length spec.disk ≡ 16 → 92 ≤ o → back_byte spec o ≡ 0
+back_byte-past spec o sixteen past = none_either spec.backup (header_byte-past (back_header spec) o sixteen past)
+
 -- the 92 bytes that the sum is over
 pub header_bytes_at : (h : GptHeader) (sum : ℕ) → length h.disk ≡ 16 → bytes_at (byte_of (header_fields h sum)) 0 92 ≡ joined (header_fields h sum)
 header_bytes_at h sum sixteen =
@@ -40,7 +58,7 @@ unfolding header_sum
 header_sum_is h sixteen = ap crc32_of (sym (header_bytes_at h 0 sixteen))
 
 -- zeros behind a list are what is read past its end
-zeros_behind : (xs : List ℕ) (n o : ℕ) → get_or (xs ++ replicate n 0) o 0 ≡ get_or xs o 0
+pub zeros_behind : (xs : List ℕ) (n o : ℕ) → get_or (xs ++ replicate n 0) o 0 ≡ get_or xs o 0
 zeros_behind xs n o = elim (cases_lt o (length xs)) [
   | inl inside ↦ get_or_append_left xs (replicate n 0) 0 o inside
   | inr past ↦ get_or-append_right xs (replicate n 0) (length xs) o 0 refl past ∙ (zeros_are_zero n (o - length xs) ∙ sym (get_or_past xs o 0 past))

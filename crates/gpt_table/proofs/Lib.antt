@@ -7,6 +7,8 @@ pub mod Sums
 pub mod Held
 pub mod SlotReads
 pub mod HeaderReads
+pub mod Inside
 pub mod ReadsBack
 pub mod Parts
+pub mod NameUnits
 mod FlagLemmas

@@ -139,6 +139,10 @@ back_byte spec o = if spec.backup then header_byte (back_header spec) o else 0
 abbrev pub HasSectorSize : GptSpec → Type 0
 HasSectorSize spec = (spec.sector ≡ 512) ⊎ (spec.sector ≡ 4096)
 
+-- the disk's sectors reach to the end of what stands in front, with a backup or without
+abbrev pub HasRoom : GptSpec → Type 0
+HasRoom spec = front_end spec ≤ spec.sectors * spec.sector
+
 -- so many sectors that each LBA that the headers name is at least 0
 abbrev pub least_sectors : GptSpec → ℕ
 least_sectors spec = if spec.backup then 2 + entry_sectors spec else 1

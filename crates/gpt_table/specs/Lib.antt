@@ -2,8 +2,10 @@
 pub use Rattle.base_fields.specs.Crc
 pub use Rattle.base_fields.specs.Fields
 pub use Rattle.base_fields.specs.Numbers
+pub use Rattle.base_fields.specs.Parts
 pub mod Span
 pub mod Gpt
 pub mod Reading
-pub mod Parts
+pub mod GptParts
+pub mod Names
 pub mod Flags

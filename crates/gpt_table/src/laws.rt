@@ -1,8 +1,8 @@
-ghost use Rattle.gpt_table.specs.Parts.{GptHolds};
+ghost use Rattle.gpt_table.specs.GptParts.{GptHolds, GptLiesWithin};
 ghost use Rattle.gpt_table.specs.Reading.{GptReadsBack};
 
-/// Each image that has the bytes of a table reads as the headers and the 128 slots that they were
-/// made of. It does nothing when it runs.
+/// Each image that has the bytes of a table, and is as long as its disk, reads as the headers and
+/// the 128 slots that they were made of. It does nothing when it runs.
 pub fn gpt_reads_back()
     ensures { GptReadsBack }
 {}
@@ -11,4 +11,10 @@ pub fn gpt_reads_back()
 /// being apart, has the bytes of its headers and entries. It does nothing when it runs.
 pub fn gpt_holds()
     ensures { GptHolds }
+{}
+
+/// Each part of a table lies within the sectors of its disk, where these have room for what
+/// stands in front. It does nothing when it runs.
+pub fn gpt_lies_within()
+    ensures { GptLiesWithin }
 {}

@@ -4,10 +4,12 @@ use Rattle.std.proofs.Common.{arith, inl, inr, lit<, refl}
 use Rattle.std.proofs.lemmas.Bool.{cases_lt}
 use Rattle.std.proofs.lemmas.List.{get_or_past}
 use Rattle.mbr_table.specs.Mbr.{no_entry, entry_of, protective}
+use Rattle.base_fields.specs.Parts.{AreInOrder, HoldsParts}
+use Rattle.mbr_table.proofs.Held.{mbr_held, mbr_in_order}
 use Rattle.mbr_table.proofs.ReadsBack.{mbr_reads_back}
-use Rattle.mbr_table.specs.Reading.{EntryFits, slot_at}
+use Rattle.mbr_table.specs.Reading.{EntryFits, MbrFits, slot_at}
 use Rattle.mbr_table.specs.declared.mbr.MbrEntry.{MbrEntry}
-use Rattle.hybrid_table.specs.Hybrid.{HybridFits, HybridReadsBack, hybrid_spec}
+use Rattle.hybrid_table.specs.Hybrid.{HoldsHybrid, HybridFits, HybridReadsBack, hybrid_parts, hybrid_spec}
 
 -- the numbers of the protective entry fit
 protective_fits : (front : ℕ) → EntryFits (protective front)
@@ -37,10 +39,21 @@ below_three P a b c (suc zero) h = b
 below_three P a b c (suc (suc zero)) h = c
 below_three P a b c (suc (suc (suc k))) h = absurd (omega arith)
 
+-- what a hybrid's record is made of is as that of any master boot record
+pub hybrid_fits : (signature front : ℕ) (given : List MbrEntry) → HybridFits signature given → MbrFits (hybrid_spec signature front given)
+hybrid_fits signature front given fits = record { signature = fits.signature_fits; four = refl; entries = spec_fits signature front given fits }
+
+-- an image that has the part has the bytes of the record
+pub hybrid_held : (signature front : ℕ) (given : List MbrEntry) (image : ℕ → ℕ) → HoldsParts image (hybrid_parts signature front given) → HoldsHybrid image signature front given
+hybrid_held signature front given image holds = mbr_held (hybrid_spec signature front given) image holds
+
+pub hybrid_in_order : (signature front : ℕ) (given : List MbrEntry) → AreInOrder 0 (hybrid_parts signature front given)
+hybrid_in_order signature front given = mbr_in_order (hybrid_spec signature front given)
+
 pub hybrid_reads_back : HybridReadsBack
 hybrid_reads_back signature front given image fits holds =
     let spec = hybrid_spec signature front given in
-    let reads = mbr_reads_back spec image (record { signature = fits.signature_fits; entries = spec_fits signature front given fits }) holds in
+    let reads = mbr_reads_back spec image (hybrid_fits signature front given fits) holds in
     record {
       marked = reads.marked;
       signature_read = reads.signature;

@@ -1,7 +1,8 @@
 -- The master boot record beside a GUID partition table: an entry that protects the table, and up to three partitions.
 use Rattle.std.specs.Prelude.{◌≡◌, ℕ, ◌+◌, ◌*◌, ◌^◌, ◌<◌, ◌≤◌, List, [], ◌∷◌, length, slice_index_or}
 use Rattle.base_fields.specs.Fields.{Field, byte_of, number_at}
-use Rattle.mbr_table.specs.Mbr.{no_entry, mbr_fields, protective}
+use Rattle.base_fields.specs.Parts.{Part}
+use Rattle.mbr_table.specs.Mbr.{no_entry, mbr_fields, mbr_parts, protective}
 use Rattle.mbr_table.specs.Reading.{EntryFits, IsMarked, slot_at}
 use Rattle.mbr_table.specs.declared.mbr.MbrEntry.{MbrEntry}
 use Rattle.mbr_table.specs.declared.mbr.MbrSpec.{MbrSpec}
@@ -21,6 +22,10 @@ hybrid_spec signature front given = record {
 -- the fields at 440 to 511
 abbrev pub hybrid_fields : ℕ → ℕ → List MbrEntry → List Field
 hybrid_fields signature front given = mbr_fields (hybrid_spec signature front given)
+
+-- the part of a disk that it has: the bytes at 440 to 511
+abbrev pub hybrid_parts : ℕ → ℕ → List MbrEntry → List Part
+hybrid_parts signature front given = mbr_parts (hybrid_spec signature front given)
 
 -- the numbers that are given fit their fields, and no empty entry is active
 pub record HybridFits (signature : ℕ) (given : List MbrEntry) : Type 0 where

@@ -1,5 +1,6 @@
 -- definitions that contracts cite
 pub use Rattle.base_fields.specs.Fields
+pub use Rattle.base_fields.specs.Parts
 pub use Rattle.mbr_table.specs.Mbr
 pub use Rattle.mbr_table.specs.Reading
 pub mod Hybrid

@@ -6,6 +6,3 @@ mod laws;
 
 pub use hybrid::hybrid_bytes;
 pub use laws::hybrid_reads_back;
-
-#[cfg(test)]
-mod tests;

@@ -1,3 +1,4 @@
--- lemmas on fields without gaps, on one slot, and on the whole record
+-- lemmas on one slot, on the whole record, and on an image that has its part
+pub mod Held
 pub mod SlotReads
 pub mod ReadsBack

@@ -1,6 +1,7 @@
 -- The master boot record from its disk signature on (UEFI 2.10, section 5.2.1), as fields at their offsets in the image.
 use Rattle.std.specs.Prelude.{◌≡◌, ℕ, ◌+◌, ◌-◌, ◌<◌, min, List, [], ◌∷◌, ◌++◌, Bool, false, ◌&&◌, ◌==◌, if◌then◌else◌, slice_index_or}
 use Rattle.base_fields.specs.Fields.{Field, number}
+use Rattle.base_fields.specs.Parts.{Part, fields_part}
 use Rattle.mbr_table.specs.Chs.{Address, address_of, nowhere, chs_bytes}
 use Rattle.mbr_table.specs.declared.mbr.MbrEntry.{MbrEntry}
 use Rattle.mbr_table.specs.declared.mbr.MbrSpec.{MbrSpec}
@@ -62,3 +63,7 @@ mbr_fields spec =
     ++ entry_fields 478 0 (entry_of spec 2)
     ++ entry_fields 494 0 (entry_of spec 3)
     ++ mark ∷ [])
+
+-- the part of a disk that a master boot record has: the bytes at 440 to 511
+abbrev pub mbr_parts : MbrSpec → List Part
+mbr_parts spec = fields_part 0 440 512 (mbr_fields spec) ∷ []

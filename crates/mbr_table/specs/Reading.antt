@@ -1,5 +1,5 @@
 -- What the bytes of an image read as, an image being the byte at each offset. Nothing here knows how a table is written.
-use Rattle.std.specs.Prelude.{◌≡◌, ℕ, ◌+◌, ◌*◌, ◌^◌, ◌<◌, ◌≤◌, ◌==◌, true, false}
+use Rattle.std.specs.Prelude.{◌≡◌, ℕ, ◌+◌, ◌*◌, ◌^◌, ◌<◌, ◌≤◌, ◌==◌, [], ◌∷◌, length, true, false}
 use Rattle.base_fields.specs.Fields.{byte_of, number_at}
 use Rattle.mbr_table.specs.Mbr.{mbr_fields, entry_of, is_empty}
 use Rattle.mbr_table.specs.declared.mbr.MbrEntry.{MbrEntry}
@@ -12,6 +12,13 @@ slot_at image o = record {
   kind = image (o + 4);
   first = number_at image (o + 8) 4;
   count = number_at image (o + 12) 4;
+}
+
+-- what the master boot record of an image says from its signature on
+abbrev pub spec_at : (ℕ → ℕ) → MbrSpec
+spec_at image = record {
+  signature = number_at image 440 4;
+  entries = slot_at image 446 ∷ slot_at image 462 ∷ slot_at image 478 ∷ slot_at image 494 ∷ [];
 }
 
 -- the sector from an offset on ends in 55 AA
@@ -37,6 +44,7 @@ pub record EntryFits (e : MbrEntry) : Type 0 where
 
 pub record MbrFits (spec : MbrSpec) : Type 0 where
   pub signature : spec.signature < 2 ^ 32
+  pub four : length spec.entries ≡ 4
   pub entries : (k : ℕ) → k < 4 → EntryFits (entry_of spec k)
 
 -- each image that has the bytes of a master boot record reads as what they were made of

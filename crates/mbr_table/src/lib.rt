@@ -7,6 +7,3 @@ mod mbr;
 
 pub use laws::mbr_reads_back;
 pub use mbr::{MARK, MbrEntry, MbrSpec, mbr_bytes, protective_entry, put_entry};
-
-#[cfg(test)]
-mod tests;

@@ -11,6 +11,16 @@ pub record Counts : Type 0 where
   pub absences : ℕ
   pub ends : ℕ
 
+-- a count is at most the greatest number of 64 bits
+abbrev pub IsCount : ℕ → Type 0
+IsCount n = n ≤ 2 ^ 64 - 1
+
+-- so is each of these
+pub record AreCounts (counts : Counts) : Type 0 where
+  pub faults : IsCount counts.faults
+  pub absences : IsCount counts.absences
+  pub ends : IsCount counts.ends
+
 -- no count fell
 pub record NoneFell (before now : Counts) : Type 0 where
   pub faults : before.faults ≤ now.faults

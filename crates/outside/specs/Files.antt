@@ -15,6 +15,20 @@ bytes_of file name = unwrap_or (file name) []
 abbrev pub IsThere : Tree → List ℕ → Type 0 → Type 0
 IsThere file name fact = (file name ≡ Some (bytes_of file name)) × fact
 
+-- a call on files: for a length, for at most so many bytes at an offset, to make a file, or to write one
+pub data Asked : Type 0 where
+  Length : List ℕ → Asked
+  Reads : List ℕ → ℕ → ℕ → Asked
+  Creates : List ℕ → ℕ → Asked
+  Writes : List ℕ → ℕ → List ℕ → Asked
+
+-- the same call, for at most one byte
+abbrev pub one_byte : Asked → Asked
+one_byte (Length name) = Length name
+one_byte (Reads name off n) = Reads name off 1
+one_byte (Creates name len) = Creates name len
+one_byte (Writes name off bytes) = Writes name off bytes
+
 -- every other name is as before
 abbrev pub OthersStay : List ℕ → Tree → Tree → Type 0
 OthersStay name old new = (other : List ℕ) → other ≢ name → new other ≡ old other

@@ -1,5 +1,6 @@
 ghost use Rattle.std.specs.Prelude.{◌≡◌, ◌≤◌, ◌↔◌, IsTrue, Contains, OnOk, OnErr, if◌then◌else◌};
 ghost use Rattle.outside.specs.Calls.{Calls, unused, listing, more};
+ghost use Rattle.outside.specs.Counts.{IsCount};
 
 use base_fields::NoMemory;
 use std::alloc::Global;
@@ -46,7 +47,9 @@ impl Failures {
         ensures exact { IsTrue result ↔ Contains self.old.failing self.old.next }
         ensures after { self.new ≡ record self.old { next = more self.old.next; faults = if result then more self.old.faults else self.old.faults } }
         ensures none_fell { self.old.faults ≤ self.new.faults }
+        ensures counted { IsCount self.new.faults }
     {
+        let _faults = self.faults;
         let fails = self.failing.contains(&self.next);
         self.next = self.next.saturating_add(1);
         if fails {
@@ -59,6 +62,7 @@ impl Failures {
     pub fn count(&mut self)
         ensures after { self.new ≡ record self.old { faults = more self.old.faults } }
         ensures none_fell { self.old.faults ≤ self.new.faults }
+        ensures counted { IsCount self.new.faults }
     {
         self.faults = self.faults.saturating_add(1);
     }

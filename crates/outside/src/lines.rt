@@ -1,6 +1,6 @@
 ghost use Rattle.std.specs.Prelude.{◌≡◌, ◌≤◌, ◌<◌, ◌+◌, ◌^◌, ◌↔◌, ◌++◌, ◌∷◌, [], Some, None, IfOk, IsOk, OnOk, OnErr, IsTrue, Contains, length, sum, slice_get, option_copied, vec_len, vec_capacity};
 ghost use Rattle.outside.specs.Calls.{IsNext, unused, listing, more};
-ghost use Rattle.outside.specs.Counts.{Rose};
+ghost use Rattle.outside.specs.Counts.{IsCount, Rose};
 ghost use Rattle.outside.specs.Lines.{Kept, pieces, taken, IsStored};
 ghost use Rattle.outside.specs.Printer.{added};
 
@@ -75,6 +75,7 @@ impl Printer for MemPrinter {
         ensures printed { OnOk result (Some self.new.lines ≡ added (Some self.old.lines) bytes.now) }
         ensures failed { OnErr result (Rose self.old.calls.faults self.new.calls.faults) }
         ensures none_fell { self.old.calls.faults ≤ self.new.calls.faults }
+        ensures counted { IsCount self.new.calls.faults }
         ensures err { OnErr result (Some self.new.lines ≡ Some self.old.lines) }
         ensures numbered { IsNext self.old.calls self.new.calls }
         ensures same_room { self.new.room ≡ self.old.room }

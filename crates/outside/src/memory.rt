@@ -2,8 +2,8 @@ ghost use Rattle.std.specs.Prelude.{◌≡◌, ◌<◌, ◌≤◌, ◌↔◌, �
 ghost use Rattle.std.specs.BTreeMap.{get_by_text};
 ghost use Rattle.base_fields.specs.Fields.{written};
 ghost use Rattle.outside.specs.Calls.{IsNext, unused, listing};
-ghost use Rattle.outside.specs.Counts.{NoneFell, Rose};
-ghost use Rattle.outside.specs.Files.{OthersStay, IsReadAt, IsLengthOf, IsReadOf, IsThere, bytes_of};
+ghost use Rattle.outside.specs.Counts.{IsCount, NoneFell, Rose};
+ghost use Rattle.outside.specs.Files.{Reads, one_byte, OthersStay, IsReadAt, IsLengthOf, IsReadOf, IsThere, bytes_of};
 
 use crate::failures::Failures;
 use crate::{FileErr, Files, WriteErr};
@@ -18,6 +18,8 @@ pub struct SureFiles {
     files: BTreeMap<String, Vec<u8>>,
     absences: u64,
     ends: u64,
+    ghost absences_end: { IsCount absences },
+    ghost ends_end: { IsCount ends },
 }
 
 impl SureFiles {
@@ -69,11 +71,15 @@ impl SureFiles {
 }
 
 impl Files for SureFiles {
+    ghost use Rattle.std.proofs.Common.{lit≤};
+
     ghost told = { Unit {0} };
 
     ghost file = { λ s. λ name. option_map (λ v. v.items) (get_by_text s.files name) };
 
     ghost counts = { λ s. record { faults = 0; absences = s.absences; ends = s.ends } };
+
+    ghost counts_end = { λ s. record { faults = lit≤ tt; absences = s.absences_end; ends = s.ends_end } };
 
     fn length(&mut self, name: &str) -> Result<u64, FileErr> {
         match self.files.get(name) {
@@ -117,6 +123,7 @@ impl Files for SureFiles {
 pub struct MemFiles {
     files: SureFiles,
     failures: Failures,
+    ghost faults_end: { IsCount failures.faults },
 }
 
 impl MemFiles {
@@ -174,6 +181,10 @@ impl Files for MemFiles {
     ghost file = { λ m. ⟦<SureFiles as Files>⟧.file m.files };
 
     ghost counts = { λ m. record (⟦<SureFiles as Files>⟧.counts m.files) { faults = m.failures.faults } };
+
+    ghost takes = { λ old _ new. IsNext (calls_of old) (calls_of new) };
+
+    ghost counts_end = { λ m. record { faults = m.faults_end; absences = m.files.absences_end; ends = m.files.ends_end } };
 
     fn length(&mut self, name: &str) -> Result<u64, FileErr>
         ensures none_fell { NoneFell (⟦<MemFiles as Files>⟧.counts self.old) (⟦<MemFiles as Files>⟧.counts self.new) }
@@ -238,7 +249,7 @@ impl Files for MemFiles {
     }
 }
 
-/// Files of which one call reads at most one byte. Every other call is passed on.
+/// Files of which one call reads at most one byte. Each call is passed on once.
 #[derive(Debug, Drop)]
 pub struct TrickleFiles<F: Files> {
     pub inner: F,
@@ -250,6 +261,10 @@ impl<F: Files> Files for TrickleFiles<F> {
     ghost file = { λ t. F.file t.inner };
 
     ghost counts = { λ t. F.counts t.inner };
+
+    ghost takes = { λ old asked new. F.takes old.inner (one_byte asked) new.inner };
+
+    ghost counts_end = { λ t. F.counts_end t.inner };
 
     fn length(&mut self, name: &str) -> Result<u64, FileErr> {
         self.inner.length(name)
@@ -264,6 +279,7 @@ impl<F: Files> Files for TrickleFiles<F> {
         ensures within { IfOk result (λ n. n ≤ length buf.old) }
         ensures same_files { F.file self.new.inner ≡ F.file self.old.inner }
         ensures there { F.told → IsReadOf (F.file self.old.inner name.now) off buf.new result }
+        ensures once { F.takes self.old.inner (Reads name.now off 1) self.new.inner }
         ensures one { IfOk result (λ n. n ≤ 1) }
     {
         self.inner.read_at(name, off, &mut buf[..1])

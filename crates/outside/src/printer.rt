@@ -1,5 +1,5 @@
 ghost use Rattle.std.specs.Prelude.{◌≡◌, ◌≤◌, ℕ, List, OnOk, OnErr, Option};
-ghost use Rattle.outside.specs.Counts.{Rose};
+ghost use Rattle.outside.specs.Counts.{IsCount, Rose};
 ghost use Rattle.outside.specs.Printer.{added};
 
 /// A line was not printed.
@@ -20,5 +20,6 @@ pub trait Printer {
         ensures printed { OnOk result (lines self.new ≡ added (lines self.old) bytes.now) }
         ensures failed { OnErr result (Rose (faults self.old) (faults self.new)) }
         ensures none_fell { faults self.old ≤ faults self.new }
+        ensures counted { IsCount (faults self.new) }
         ensures err { OnErr result (lines self.new ≡ lines self.old) };
 }

@@ -24,6 +24,7 @@ pub fn fill<F: Files>(files: &mut F, name: &str, off: u64, buf: &mut [u8]) -> Re
     ensures missing { IsErrOf result FillFault.Missing → Rose (F.counts files.old).absences (F.counts files.new).absences }
     ensures ended { (at : ℕ) → IsErrOf result (FillFault.Short at) → Rose (F.counts files.old).ends (F.counts files.new).ends }
     ensures needed { (at : ℕ) → IsErrOf result (FillFault.Short at) → at < off + length buf.old }
+    ensures not_before { (at : ℕ) → IsErrOf result (FillFault.Short at) → off ≤ at }
     ensures same_files { F.file files.new ≡ F.file files.old }
     ensures there { F.told → Fills (span_of (F.file files.old name.now) off (length buf.old)) buf.new result }
 {

@@ -40,6 +40,8 @@ pub fn transfer<F: Files>(
     ensures failed { IsErrOf result TransferFault.Failed → Rose (F.counts files.old).faults (F.counts files.new).faults }
     ensures missing { IsErrOf result TransferFault.Missing → Rose (F.counts files.old).absences (F.counts files.new).absences }
     ensures ended { (at : ℕ) → IsErrOf result (TransferFault.Short at) → Rose (F.counts files.old).ends (F.counts files.new).ends }
+    ensures needed { (at : ℕ) → IsErrOf result (TransferFault.Short at) → at < from.at + from.len }
+    ensures not_before { (at : ℕ) → IsErrOf result (TransferFault.Short at) → from.at ≤ at }
     ensures others { OthersStay target.now (F.file files.old) (F.file files.new) }
     ensures there { F.told → Transfers (span_of (F.file files.old source.now) from.at from.len) target.now to (F.file files.old) (F.file files.new) result }
 {
@@ -69,6 +71,8 @@ fn transfer_piece<F: Files>(
     ensures failed { IsErrOf result TransferFault.Failed → Rose (F.counts files.old).faults (F.counts files.new).faults }
     ensures missing { IsErrOf result TransferFault.Missing → Rose (F.counts files.old).absences (F.counts files.new).absences }
     ensures ended { (at : ℕ) → IsErrOf result (TransferFault.Short at) → Rose (F.counts files.old).ends (F.counts files.new).ends }
+    ensures needed { (short : ℕ) → IsErrOf result (TransferFault.Short short) → short < at + length buf.old }
+    ensures not_before { (short : ℕ) → IsErrOf result (TransferFault.Short short) → at ≤ short }
     ensures others { OthersStay target.now (F.file files.old) (F.file files.new) }
     ensures there { F.told → Transfers (span_of (F.file files.old source.now) at (length buf.old)) target.now to (F.file files.old) (F.file files.new) result }
 {

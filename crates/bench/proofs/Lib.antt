@@ -1,0 +1,3 @@
+-- lemmas
+pub mod DiskLemmas
+pub mod MeterLemmas

@@ -1,0 +1,19 @@
+-- What contracts see of real devices.
+use Rattle.std.specs.Prelude.{ℕ, List, Option, None, false, is_some, option_map, string_bytes}
+use Rattle.bench_devices.specs.declared.host_bench.Device.{Device}
+use Rattle.bench.specs.Meter.{Both, Meter}
+
+-- the name of a device, where it is attached
+abbrev pub name_of : {F : Type 0} → Option (Device F) → Option (List ℕ)
+name_of device = option_map (λ d. string_bytes d.name) device
+
+-- what is counted of real devices: how often each has failed, and the names under which they are attached
+abbrev pub counted : Both ℕ → Option (List ℕ) → Option (List ℕ) → Meter
+counted faults target journal = record {
+  faults = faults;
+  work = 0;
+  attached = record { target = is_some target; journal = is_some journal };
+  name = record { target = target; journal = journal };
+  room = None;
+  sure = false;
+}
