@@ -2,9 +2,13 @@
 //! came of each.
 #![tactic(auto)]
 
+mod answer_steps;
 mod arguments;
+mod bench_steps;
+mod call_steps;
 mod contents;
 mod cover_steps;
+mod devices;
 mod file_steps;
 mod playing;
 mod run_steps;

@@ -1,4 +1,5 @@
 //! Steps that run commands, and look at their words and lines.
+use crate::answer_steps::put_kept;
 use crate::arguments::Arguments;
 use crate::shelf::Shelf;
 use crate::world::World;
@@ -90,13 +91,7 @@ fn show_run(alloc: Global, answer: &Answer, printer: &MemPrinter) -> Result<Stri
     let name = variant_of(alloc, &format!(in alloc; "{answer:?}")?)?;
     let status = answer.status();
     let mut shown = format!(in alloc; "{status} {name}")?;
-    for i in 0..usize::MAX {
-        let Some(line) = printer.kept(i) else {
-            break;
-        };
-        shown.push_str("\n  ")?;
-        shown.push_str(&String::from_utf8_lossy(alloc, line)?)?;
-    }
+    put_kept(alloc, printer, &mut shown)?;
     Ok(shown)
 }
 

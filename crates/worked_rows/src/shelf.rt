@@ -1,5 +1,6 @@
 //! The files of a scenario: files in memory with their names.
-ghost use Rattle.std.specs.Prelude.{◌≡◌};
+ghost use Rattle.std.specs.Prelude.{◌≤◌, IsTrue, length};
+ghost use Rattle.outside.specs.Files.{IsThere, bytes_of};
 
 use anyhow::Result;
 use outside::{FileErr, Files, MemFiles, WriteErr};
@@ -35,6 +36,16 @@ impl Shelf {
 
     pub fn bytes(&self, name: &str) -> Option<&[u8]> {
         self.files.bytes(name)
+    }
+
+    /// Whether a file is there and doesn't end before a place.
+    pub fn reaches(&self, name: &str, at: u64) -> bool
+        ensures { IsTrue result → IsThere (⟦<MemFiles as Files>⟧.file self.now.files) name.now (at ≤ length (bytes_of (⟦<MemFiles as Files>⟧.file self.now.files) name.now)) }
+    {
+        match self.files.bytes(name) {
+            Some(bytes) => at <= bytes.len() as u64,
+            None => false,
+        }
     }
 
     /// The names of the files, in order. A file whose making failed isn't one.
@@ -73,6 +84,8 @@ impl Files for Shelf {
     ghost file = { λ s. ⟦<MemFiles as Files>⟧.file s.files };
 
     ghost counts = { λ s. ⟦<MemFiles as Files>⟧.counts s.files };
+
+    ghost counts_end = { λ s. ⟦<MemFiles as Files>⟧.counts_end s.files };
 
     fn length(&mut self, name: &str) -> Result<u64, FileErr> {
         self.calls = self.calls.saturating_add(1);

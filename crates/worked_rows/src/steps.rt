@@ -1,5 +1,8 @@
 //! The steps of a scenario.
+use crate::answer_steps::AnswerStep;
 use crate::arguments::Arguments;
+use crate::bench_steps::BenchStep;
+use crate::call_steps::CallStep;
 use crate::cover_steps::CoverStep;
 use crate::file_steps::FileStep;
 use crate::run_steps::RunStep;
@@ -23,6 +26,9 @@ pub enum Step {
     Sparse(SparseStep),
     Tables(TableStep),
     Values(ValueStep),
+    Bench(BenchStep),
+    Calls(CallStep),
+    Answers(AnswerStep),
 }
 
 impl Step {
@@ -53,6 +59,15 @@ impl Step {
         if let Some(step) = ValueStep::read(alloc, &verb, words)? {
             return Ok(Step::Values(step));
         }
+        if let Some(step) = BenchStep::read(alloc, &verb, words)? {
+            return Ok(Step::Bench(step));
+        }
+        if let Some(step) = CallStep::read(alloc, &verb, words)? {
+            return Ok(Step::Calls(step));
+        }
+        if let Some(step) = AnswerStep::read(alloc, &verb, words)? {
+            return Ok(Step::Answers(step));
+        }
         bail!("no such step: {verb}")
     }
 
@@ -67,6 +82,9 @@ impl Step {
             Step::Sparse(step) => step.play(world),
             Step::Tables(step) => step.play(world),
             Step::Values(step) => step.play(world),
+            Step::Bench(step) => step.play(world),
+            Step::Calls(step) => step.play(world),
+            Step::Answers(step) => step.play(world),
         }
     }
 }

@@ -1,4 +1,8 @@
 //! Steps on partition tables. Each puts the bytes of a table into a file.
+ghost use Rattle.std.specs.Prelude.{◌≡◌, ◌+◌, ◌^◌, ◌<◌, IsTrue, length};
+ghost use Rattle.extended_chain.specs.Chain.{Ascends, logical_of};
+ghost use Rattle.mbr_table.specs.Mbr.{HasLast};
+
 use crate::arguments::Arguments;
 use crate::file_steps::store;
 use crate::value_steps::read_id;
@@ -206,7 +210,9 @@ fn read_flags(words: &mut Arguments) -> Result<Flags> {
 }
 
 /// Whether an entry is empty or has a last sector.
-fn has_last(entry: &MbrEntry) -> bool {
+fn has_last(entry: &MbrEntry) -> bool
+    ensures { IsTrue result → HasLast 0 entry.now }
+{
     entry.is_empty() || entry.first > 0 || entry.count > 0
 }
 
@@ -265,20 +271,31 @@ fn put_record(
     store(world, name, &bytes)
 }
 
-/// Whether each record stands before its partition and before the next record, and its sectors fit.
-fn ascends(specs: &[LogicalSpec]) -> bool {
-    for (k, spec) in specs.iter().enumerate() {
-        if spec.head >= spec.first {
-            return false;
-        }
-        if u64::from(spec.first - spec.head) + u64::from(spec.count) > u64::from(u32::MAX) {
-            return false;
-        }
-        if k > 0 && specs[k - 1].head >= spec.head {
+/// Whether each record stands before its partition and before the next record, and its sectors fit a field.
+fn ascends(specs: &[LogicalSpec]) -> bool
+    ensures { IsTrue result → Ascends specs.now }
+{
+    for k in 0..specs.len() {
+        if !stands(specs, k) {
             return false;
         }
     }
     true
+}
+
+fn stands(specs: &[LogicalSpec], k: usize) -> bool
+    requires { k < length specs.now }
+    ensures ahead { IsTrue result → (logical_of specs.now k).head < (logical_of specs.now k).first }
+    ensures rises { IsTrue result → k + 1 < length specs.now → (logical_of specs.now k).head < (logical_of specs.now (k + 1)).head }
+    ensures fits { IsTrue result → (logical_of specs.now k).first + (logical_of specs.now k).count < (logical_of specs.now k).head + 2 ^ 32 }
+{
+    let spec = specs[k];
+    let end = u64::from(spec.first) + u64::from(spec.count);
+    let most = u64::from(spec.head) + u64::from(u32::MAX);
+    if k + 1 < specs.len() && spec.head >= specs[k + 1].head {
+        return false;
+    }
+    spec.head < spec.first && end <= most
 }
 
 fn put_gpt(world: &mut World, name: &str, spec: &GptSpec) -> Result<String> {

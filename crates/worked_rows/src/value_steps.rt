@@ -130,8 +130,14 @@ fn guid(alloc: Global, id: [u8; 16]) -> Result<String> {
 }
 
 fn rounded(alloc: Global, number: u64, to: u64) -> Result<String> {
-    if to == 0 || number > u64::MAX / to * to {
-        bail!("no multiple");
+    if to == 0 {
+        bail!("no multiple of zero");
+    }
+    let Some(most) = (u64::MAX / to).checked_mul(to) else {
+        bail!("no such multiple");
+    };
+    if number > most {
+        bail!("no such multiple");
     }
     let least = round_up(number, to);
     Ok(format!(in alloc; "rounded {least}")?)

@@ -1,4 +1,5 @@
 //! What the steps of a scenario act on.
+use crate::devices::Devices;
 use crate::shelf::Shelf;
 use base_fields::List;
 use conf_sections::Vars;
@@ -17,6 +18,7 @@ pub struct World {
     /// The lines of the next run that fail, from 0.
     pub failing_lines: Vec<u64>,
     pub cover: Cover,
+    pub devices: Option<Devices>,
 }
 
 impl World {
@@ -28,6 +30,7 @@ impl World {
             vars: List::new(alloc),
             failing_lines: Vec::new(alloc),
             cover: Cover::new(alloc),
+            devices: None,
         }
     }
 }
