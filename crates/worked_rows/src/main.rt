@@ -11,6 +11,7 @@ mod cover_steps;
 mod devices;
 mod file_steps;
 mod playing;
+mod pool_steps;
 mod run_steps;
 mod shelf;
 mod showing;

@@ -5,6 +5,7 @@ use crate::bench_steps::BenchStep;
 use crate::call_steps::CallStep;
 use crate::cover_steps::CoverStep;
 use crate::file_steps::FileStep;
+use crate::pool_steps::PoolStep;
 use crate::run_steps::RunStep;
 use crate::sparse_steps::SparseStep;
 use crate::table_steps::TableStep;
@@ -28,6 +29,7 @@ pub enum Step {
     Values(ValueStep),
     Bench(BenchStep),
     Calls(CallStep),
+    Pool(PoolStep),
     Answers(AnswerStep),
 }
 
@@ -68,6 +70,9 @@ impl Step {
         if let Some(step) = AnswerStep::read(alloc, &verb, words)? {
             return Ok(Step::Answers(step));
         }
+        if let Some(step) = PoolStep::read(&verb, words)? {
+            return Ok(Step::Pool(step));
+        }
         bail!("no such step: {verb}")
     }
 
@@ -84,6 +89,7 @@ impl Step {
             Step::Values(step) => step.play(world),
             Step::Bench(step) => step.play(world),
             Step::Calls(step) => step.play(world),
+            Step::Pool(step) => step.play(world),
             Step::Answers(step) => step.play(world),
         }
     }

@@ -10,7 +10,7 @@ use crate::world::World;
 use anyhow::{Result, bail};
 use base_fields::List;
 use extended_chain::{LogicalSpec, record_bytes};
-use gpt_table::{Flags, GptEntry, GptSpec, gpt};
+use gpt_table::{Flags, GptEntry, GptSpec, gpt, name_units};
 use hybrid_table::hybrid_bytes;
 use mbr_table::{MbrEntry, MbrSpec, mbr_bytes, protective_entry};
 use std::alloc::Global;
@@ -82,6 +82,9 @@ impl TableStep {
             "attributes" => TableStep::Attributes {
                 flags: read_flags(words)?,
             },
+            "name-units" => TableStep::NameUnits {
+                name: words.bytes("a name")?,
+            },
             _ => return Ok(None),
         };
         Ok(Some(step))
@@ -108,6 +111,7 @@ impl TableStep {
             } => put_record(world, &name, number, &specs),
             TableStep::Gpt { name, spec } => put_gpt(world, &name, &spec),
             TableStep::Attributes { flags } => attributes(world.alloc, flags),
+            TableStep::NameUnits { name } => show_units(world.alloc, &name),
         }
     }
 }
@@ -321,4 +325,16 @@ fn put_gpt(world: &mut World, name: &str, spec: &GptSpec) -> Result<String> {
 fn attributes(alloc: Global, flags: Flags) -> Result<String> {
     let bits = flags.attributes();
     Ok(format!(in alloc; "attributes {bits:016x}")?)
+}
+
+/// The units in hexadecimal, four digits each.
+fn show_units(alloc: Global, name: &[u8]) -> Result<String> {
+    if name.len() > 36 {
+        bail!("more than 36 bytes");
+    }
+    let mut line = String::from_str(alloc, "units ")?;
+    for unit in name_units(name) {
+        write!(line, "{unit:04x}")?;
+    }
+    Ok(line)
 }
