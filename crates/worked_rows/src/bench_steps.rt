@@ -185,14 +185,6 @@ fn read_digits(alloc: Global, digits: &str) -> Result<Kept> {
     Ok(Kept::Listed(keep))
 }
 
-/// The devices, where they were made.
-fn devices(world: &mut World) -> Result<&mut Devices> {
-    match &mut world.devices {
-        Some(devices) => Ok(devices),
-        None => bail!("no bench"),
-    }
-}
-
 fn make(world: &mut World, target: &str, journal: &str, room: usize) -> Result<String> {
     let target = copy_of(world, target)?;
     let journal = copy_of(world, journal)?;
@@ -201,17 +193,26 @@ fn make(world: &mut World, target: &str, journal: &str, room: usize) -> Result<S
 }
 
 fn fail(world: &mut World, call: u64) -> Result<String> {
-    devices(world)?.fail(call)?;
+    let Some(devices) = &mut world.devices else {
+        bail!("no bench");
+    };
+    devices.fail(call)?;
     done(world.alloc)
 }
 
 fn stop(world: &mut World, calls: u64) -> Result<String> {
-    devices(world)?.stop_after(calls);
+    let Some(devices) = &mut world.devices else {
+        bail!("no bench");
+    };
+    devices.stop_after(calls);
     done(world.alloc)
 }
 
 fn tear(world: &mut World, dev: Dev, at: u64, byte: u8) -> Result<String> {
-    let torn = devices(world)?.tear(dev, at, byte);
+    let Some(devices) = &mut world.devices else {
+        bail!("no bench");
+    };
+    let torn = devices.tear(dev, at, byte);
     let text = if torn { "torn" } else { "not pending there" };
     Ok(String::from_str(world.alloc, text)?)
 }
@@ -239,16 +240,19 @@ fn leave(world: &mut World, kept: &Kept) -> Result<String> {
     done(world.alloc)
 }
 
-fn pending(world: &mut World) -> Result<String> {
-    let count = devices(world)?.pending();
+fn pending(world: &World) -> Result<String> {
+    let Some(devices) = &world.devices else {
+        bail!("no bench");
+    };
+    let count = devices.pending();
     Ok(format!(in world.alloc; "pending {count}")?)
 }
 
 /// What a call that has nothing to show answered.
-fn outcome(world: &World, outcome: Result<(), BenchErr>) -> Result<String> {
-    match outcome {
-        Ok(()) => done(world.alloc),
-        Err(BenchErr) => failed(world.alloc),
+fn outcome(alloc: Global, answer: Result<(), BenchErr>) -> Result<String> {
+    match answer {
+        Ok(()) => done(alloc),
+        Err(BenchErr) => failed(alloc),
     }
 }
 
@@ -258,7 +262,9 @@ fn failed(alloc: Global) -> Result<String> {
 
 fn show(world: &mut World, dev: Dev, at: usize, len: usize) -> Result<String> {
     let alloc = world.alloc;
-    let devices = devices(world)?;
+    let Some(devices) = &mut world.devices else {
+        bail!("no bench");
+    };
     let Ok(all) = devices.length(dev) else {
         return failed(alloc);
     };
@@ -270,24 +276,37 @@ fn show(world: &mut World, dev: Dev, at: usize, len: usize) -> Result<String> {
 }
 
 fn length(world: &mut World, dev: Dev) -> Result<String> {
-    match devices(world)?.length(dev) {
-        Ok(len) => Ok(format!(in world.alloc; "length {len}")?),
-        Err(BenchErr) => failed(world.alloc),
+    let alloc = world.alloc;
+    let Some(devices) = &mut world.devices else {
+        bail!("no bench");
+    };
+    match devices.length(dev) {
+        Ok(len) => Ok(format!(in alloc; "length {len}")?),
+        Err(BenchErr) => failed(alloc),
     }
 }
 
 fn write(world: &mut World, dev: Dev, at: u64, contents: &Contents) -> Result<String> {
     let bytes = contents.bytes(world.alloc, &world.files)?;
-    let answer = devices(world)?.write(dev, at, &bytes);
-    outcome(world, answer)
+    let Some(devices) = &mut world.devices else {
+        bail!("no bench");
+    };
+    let answer = devices.write(dev, at, &bytes);
+    outcome(world.alloc, answer)
 }
 
 fn grow(world: &mut World, len: u64) -> Result<String> {
-    let answer = devices(world)?.grow(len);
-    outcome(world, answer)
+    let Some(devices) = &mut world.devices else {
+        bail!("no bench");
+    };
+    let answer = devices.grow(len);
+    outcome(world.alloc, answer)
 }
 
 fn sync(world: &mut World, dev: Dev) -> Result<String> {
-    let answer = devices(world)?.sync(dev);
-    outcome(world, answer)
+    let Some(devices) = &mut world.devices else {
+        bail!("no bench");
+    };
+    let answer = devices.sync(dev);
+    outcome(world.alloc, answer)
 }

@@ -121,7 +121,8 @@ fn length(world: &mut World, name: &str) -> Result<String> {
 
 fn read(world: &mut World, name: &str, at: u64, len: usize) -> Result<String> {
     if world.trickles {
-        let inner = mem::replace(&mut world.files, Shelf::new(world.alloc));
+        let none = Shelf::new(world.alloc);
+        let inner = mem::replace(&mut world.files, none);
         let mut files = TrickleFiles { inner };
         let answer = read_of(world.alloc, &mut files, name, at, len);
         world.files = files.inner;

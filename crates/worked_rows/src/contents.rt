@@ -128,7 +128,7 @@ fn put_counted(bytes: &mut Vec<u8>, count: u64, modulus: u64) -> Result<()> {
         bail!("a modulus is from 1 to 256");
     }
     for i in 0..count {
-        bytes.push((i % modulus) as u8)?;
+        bytes.push(u8::try_from(i % modulus).unwrap_or(0))?;
     }
     Ok(())
 }

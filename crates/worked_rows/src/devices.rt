@@ -1,5 +1,5 @@
 //! The two devices of a scenario.
-ghost use Rattle.bench.specs.Meter.{IsAttached};
+ghost use Rattle.bench.specs.Meter.{IsAttached, SameNames};
 
 use anyhow::{Result, bail};
 use bench::{Bench, BenchErr, Dev};
@@ -17,9 +17,8 @@ pub struct Devices {
 impl Devices {
     /// The devices with these bytes, and room for the record of their calls.
     pub fn new(alloc: Global, target: &[u8], journal: &[u8], room: usize) -> Result<Devices> {
-        Ok(Devices {
-            bench: MemBench::new(alloc, target, journal, room)?,
-        })
+        let bench = MemBench::new(alloc, target, journal, room)?;
+        Ok(Devices { bench })
     }
 
     /// Lets the call of a number fail, counted from the making of the devices.
@@ -49,9 +48,8 @@ impl Devices {
     /// The devices as a stop leaves them that keeps these of the pending writes.
     pub fn leave(self, alloc: Global, keep: &[bool]) -> Result<Devices> {
         let Devices { bench } = self;
-        Ok(Devices {
-            bench: bench.leave(alloc, keep)?,
-        })
+        let left = bench.leave(alloc, keep)?;
+        Ok(Devices { bench: left })
     }
 
     pub fn length(&mut self, dev: Dev) -> Result<u64, BenchErr> {
@@ -63,33 +61,23 @@ impl Devices {
 
     /// The bytes at the front of a device, where so many are there, by two calls.
     pub fn read(&mut self, dev: Dev, buf: &mut [u8]) -> Result<(), BenchErr> {
-        if buf.len() as u64 > self.length(dev)? {
-            return Err(BenchErr);
-        }
         match dev {
-            Dev::Target => self.bench.read_at(Dev::Target, 0, buf),
-            Dev::Journal => self.bench.read_at(Dev::Journal, 0, buf),
+            Dev::Target => read(&mut self.bench, Dev::Target, buf),
+            Dev::Journal => read(&mut self.bench, Dev::Journal, buf),
         }
     }
 
-    /// Writes where that is inside.
+    /// Writes where that is inside, by two calls.
     pub fn write(&mut self, dev: Dev, at: u64, bytes: &[u8]) -> Result<(), BenchErr> {
-        let len = self.length(dev)?;
-        if at > len || bytes.len() as u64 > len - at {
-            return Err(BenchErr);
-        }
         match dev {
-            Dev::Target => self.bench.write_at(Dev::Target, at, bytes),
-            Dev::Journal => self.bench.write_at(Dev::Journal, at, bytes),
+            Dev::Target => write(&mut self.bench, Dev::Target, at, bytes),
+            Dev::Journal => write(&mut self.bench, Dev::Journal, at, bytes),
         }
     }
 
-    /// Grows the journal where that is longer.
+    /// Grows the journal where that is longer, by two calls.
     pub fn grow(&mut self, len: u64) -> Result<(), BenchErr> {
-        if self.length(Dev::Journal)? > len {
-            return Err(BenchErr);
-        }
-        self.bench.grow(len)
+        grow(&mut self.bench, len)
     }
 
     pub fn sync(&mut self, dev: Dev) -> Result<(), BenchErr> {
@@ -98,6 +86,41 @@ impl Devices {
             Dev::Journal => self.bench.sync(Dev::Journal),
         }
     }
+}
+
+fn read<B: Bench>(bench: &mut B, dev: Dev, buf: &mut [u8]) -> Result<(), BenchErr>
+    requires { IsAttached (B.meter bench.old) dev }
+    ensures { SameNames (B.meter bench.old) (B.meter bench.new) }
+{
+    let len = bench.length(dev)?;
+    if buf.len() as u64 > len {
+        return Err(BenchErr);
+    }
+    bench.read_at(dev, 0, buf)?;
+    Ok(())
+}
+
+fn write<B: Bench>(bench: &mut B, dev: Dev, at: u64, bytes: &[u8]) -> Result<(), BenchErr>
+    requires { IsAttached (B.meter bench.old) dev }
+    ensures { SameNames (B.meter bench.old) (B.meter bench.new) }
+{
+    let len = bench.length(dev)?;
+    if at > len || bytes.len() as u64 > len - at {
+        return Err(BenchErr);
+    }
+    bench.write_at(dev, at, bytes)?;
+    Ok(())
+}
+
+fn grow<B: Bench>(bench: &mut B, len: u64) -> Result<(), BenchErr>
+    requires { IsAttached (B.meter bench.old) Dev.Journal }
+    ensures { SameNames (B.meter bench.old) (B.meter bench.new) }
+{
+    if bench.length(Dev::Journal)? > len {
+        return Err(BenchErr);
+    }
+    bench.grow(len)?;
+    Ok(())
 }
 
 /// The device of a word.

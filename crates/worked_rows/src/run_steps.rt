@@ -80,7 +80,8 @@ fn printer_of(world: &mut World) -> Result<MemPrinter> {
 }
 
 fn run_trickled(world: &mut World, words: &Vec<String>, printer: &mut MemPrinter) -> Answer {
-    let inner = mem::replace(&mut world.files, Shelf::new(world.alloc));
+    let none = Shelf::new(world.alloc);
+    let inner = mem::replace(&mut world.files, none);
     let mut files = TrickleFiles { inner };
     let answer = run(world.alloc, words, &world.vars, &mut files, printer);
     world.files = files.inner;

@@ -57,7 +57,8 @@ fn read_cursor(words: &mut Arguments) -> Result<Cursor> {
 
 fn view(world: &mut World, name: &str) -> Result<String> {
     let view = if world.trickles {
-        let inner = mem::replace(&mut world.files, Shelf::new(world.alloc));
+        let none = Shelf::new(world.alloc);
+        let inner = mem::replace(&mut world.files, none);
         let mut files = TrickleFiles { inner };
         let view = read_sparse(&mut files, name);
         world.files = files.inner;

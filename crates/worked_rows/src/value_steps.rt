@@ -93,7 +93,8 @@ fn sha(world: &World, contents: &Contents) -> Result<String> {
 
 fn digest(world: &mut World, name: &str, span: Span) -> Result<String> {
     let answer = if world.trickles {
-        let inner = mem::replace(&mut world.files, Shelf::new(world.alloc));
+        let none = Shelf::new(world.alloc);
+        let inner = mem::replace(&mut world.files, none);
         let mut files = TrickleFiles { inner };
         let answer = digest_in(world.alloc, &mut files, name, span);
         world.files = files.inner;

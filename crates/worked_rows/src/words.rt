@@ -1,6 +1,7 @@
 //! The words of a line.
 use anyhow::{Result, bail};
 use std::alloc::Global;
+use std::mem;
 
 /// Where the next byte of a line stands.
 #[derive(Clone, Copy, Debug, PartialEq, Eq)]
@@ -117,7 +118,8 @@ impl Splitter {
     }
 
     fn end_word(&mut self) -> Result<()> {
-        let word = std::mem::replace(&mut self.word, Vec::new(self.alloc));
+        let empty = Vec::new(self.alloc);
+        let word = mem::replace(&mut self.word, empty);
         self.words.push(word)?;
         self.stand = Stand::Between;
         Ok(())
@@ -129,7 +131,8 @@ impl Splitter {
             Stand::Bare => self.end_word()?,
             _ => bail!("a quoted word has no end"),
         }
-        Ok(self.words)
+        let Splitter { words, .. } = self;
+        Ok(words)
     }
 }
 
