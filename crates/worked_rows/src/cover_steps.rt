@@ -1,0 +1,292 @@
+//! Steps on a cover, on the map that is made of it, and on the map's units.
+use crate::arguments::Arguments;
+use crate::file_steps::done;
+use crate::showing::hex_of;
+use crate::world::World;
+use anyhow::{Result, bail};
+use base_fields::Span;
+use block_map::{BlockMap, Range, UnitFault, Units};
+use hex::FromHex;
+use std::alloc::Global;
+
+/// No offset of a cover is at or above 2^44.
+const END: u64 = 1 << 44;
+
+/// The most bytes of an image that has a map.
+const SIZE: u64 = 1 << 43;
+
+/// The most ranges of a map.
+const RANGES: usize = 262_144;
+
+/// The most units that are shown themselves.
+const SHOWN: u64 = 20;
+
+#[derive(Debug, Drop)]
+pub enum CoverStep {
+    Add {
+        span: Span,
+    },
+    TakeOut {
+        span: Span,
+    },
+    /// Whether the cover has an offset of a span.
+    Meets {
+        span: Span,
+    },
+    /// The runs of blocks that the cover meets.
+    Runs {
+        size: u64,
+        block: u32,
+    },
+    /// The ranges of the map, of which some are given a digest.
+    Map {
+        size: u64,
+        block: u32,
+        digests: Vec<RangeDigest>,
+    },
+    Units {
+        size: u64,
+        block: u32,
+        unit: u32,
+    },
+    /// The unit of a number.
+    Unit {
+        size: u64,
+        block: u32,
+        unit: u32,
+        number: u64,
+    },
+}
+
+/// The digest of the range of a number.
+#[derive(Clone, Copy, Debug, PartialEq, Eq)]
+pub struct RangeDigest {
+    range: usize,
+    digest: [u8; 32],
+}
+
+impl CoverStep {
+    pub fn read(alloc: Global, verb: &str, words: &mut Arguments) -> Result<Option<CoverStep>> {
+        let step = match verb {
+            "cover-add" => CoverStep::Add {
+                span: read_span(words)?,
+            },
+            "cover-take" => CoverStep::TakeOut {
+                span: read_span(words)?,
+            },
+            "cover-meets" => CoverStep::Meets {
+                span: read_span(words)?,
+            },
+            "cover-runs" => CoverStep::Runs {
+                size: words.number("a size")?,
+                block: words.word("a block's size")?,
+            },
+            "map" => read_map(alloc, words)?,
+            "units" => CoverStep::Units {
+                size: words.number("a size")?,
+                block: words.word("a block's size")?,
+                unit: words.word("a unit's size")?,
+            },
+            "unit" => read_unit(words)?,
+            _ => return Ok(None),
+        };
+        Ok(Some(step))
+    }
+
+    pub fn play(self, world: &mut World) -> Result<String> {
+        match self {
+            CoverStep::Add { span } => add(world, span),
+            CoverStep::TakeOut { span } => take_out(world, span),
+            CoverStep::Meets { span } => meets(world, span),
+            CoverStep::Runs { size, block } => runs(world, size, block),
+            CoverStep::Map {
+                size,
+                block,
+                digests,
+            } => map(world, size, block, &digests),
+            CoverStep::Units { size, block, unit } => units(world, size, block, unit),
+            CoverStep::Unit {
+                size,
+                block,
+                unit,
+                number,
+            } => one_unit(world, size, block, unit, number),
+        }
+    }
+}
+
+fn read_span(words: &mut Arguments) -> Result<Span> {
+    let at = words.number("a place")?;
+    let len = words.number("a length")?;
+    Ok(Span { at, len })
+}
+
+fn read_map(alloc: Global, words: &mut Arguments) -> Result<CoverStep> {
+    let size = words.number("a size")?;
+    let block = words.word("a block's size")?;
+    let mut digests = Vec::new(alloc);
+    for _ in 0..words.left() {
+        if words.is_empty() {
+            break;
+        }
+        digests.push(read_digest(words)?)?;
+    }
+    Ok(CoverStep::Map {
+        size,
+        block,
+        digests,
+    })
+}
+
+fn read_digest(words: &mut Arguments) -> Result<RangeDigest> {
+    let range = words.count("a range")?;
+    let text = words.text("a digest")?;
+    match <[u8; 32] as FromHex>::from_hex(text.as_str()) {
+        Ok(digest) => Ok(RangeDigest { range, digest }),
+        Err(_) => bail!("no 64 hexadecimal digits"),
+    }
+}
+
+fn read_unit(words: &mut Arguments) -> Result<CoverStep> {
+    Ok(CoverStep::Unit {
+        size: words.number("a size")?,
+        block: words.word("a block's size")?,
+        unit: words.word("a unit's size")?,
+        number: words.number("a unit")?,
+    })
+}
+
+fn add(world: &mut World, span: Span) -> Result<String> {
+    if span.at > END || span.len > END - span.at {
+        bail!("past 2^44");
+    }
+    world.cover.add(span)?;
+    spans(world)
+}
+
+fn take_out(world: &mut World, span: Span) -> Result<String> {
+    if span.at > END || span.len > END - span.at {
+        bail!("past 2^44");
+    }
+    world.cover.take_out(span)?;
+    spans(world)
+}
+
+fn spans(world: &World) -> Result<String> {
+    let text = spans_of(world.alloc, world.cover.spans())?;
+    Ok(format!(in world.alloc; "cover{text}")?)
+}
+
+/// Each span as its place and its length.
+fn spans_of(alloc: Global, spans: &[Span]) -> Result<String> {
+    let mut line = String::new(alloc);
+    for span in spans {
+        let at = span.at;
+        let len = span.len;
+        write!(line, " {at}+{len}")?;
+    }
+    Ok(line)
+}
+
+fn meets(world: &World, span: Span) -> Result<String> {
+    if span.at > END || span.len > END - span.at {
+        bail!("past 2^44");
+    }
+    let meets = world.cover.meets(span);
+    Ok(format!(in world.alloc; "meets {meets}")?)
+}
+
+fn runs(world: &World, size: u64, block: u32) -> Result<String> {
+    if block == 0 {
+        return done(world.alloc);
+    }
+    let runs = world.cover.runs(world.alloc, size, block)?;
+    let text = spans_of(world.alloc, runs.as_slice())?;
+    Ok(format!(in world.alloc; "runs{text}")?)
+}
+
+fn map(world: &World, size: u64, block: u32, digests: &[RangeDigest]) -> Result<String> {
+    if size > SIZE || !block.is_power_of_two() || block < 512 || block > 65_536 {
+        bail!("no size of an image or of a block");
+    }
+    if world.cover.spans().len() > RANGES {
+        bail!("too many spans");
+    }
+    let mut map = BlockMap::from_cover(world.alloc, &world.cover, size, block)?;
+    for given in digests {
+        if given.range < map.ranges.len() {
+            map.set_digest(given.range, given.digest);
+        }
+    }
+    ranges(world.alloc, map.ranges.as_slice())
+}
+
+/// Each range as its first and its last block, and its digest.
+fn ranges(alloc: Global, ranges: &[Range]) -> Result<String> {
+    let mut line = String::from_str(alloc, "ranges")?;
+    for range in ranges {
+        let first = range.first;
+        let last = range.last;
+        write!(line, " {first}-{last}")?;
+        if let Some(digest) = &range.digest {
+            line.push_str(" sha256=")?;
+            line.push_str(&hex_of(alloc, digest)?)?;
+        }
+    }
+    Ok(line)
+}
+
+/// The units of the map, or the fault that there are too many.
+fn units_of(world: &World, size: u64, block: u32, unit: u32) -> Result<Result<Units, UnitFault>> {
+    if size > SIZE || !block.is_power_of_two() || block < 512 || block > 65_536 {
+        bail!("no size of an image or of a block");
+    }
+    if !unit.is_power_of_two() || unit < 65_536 || unit > 4_194_304 {
+        bail!("no size of a unit");
+    }
+    if world.cover.spans().len() > RANGES {
+        bail!("too many spans");
+    }
+    let map = BlockMap::from_cover(world.alloc, &world.cover, size, block)?;
+    Ok(map.units(world.alloc, unit))
+}
+
+fn units(world: &World, size: u64, block: u32, unit: u32) -> Result<String> {
+    match &units_of(world, size, block, unit)? {
+        Ok(units) => show_units(world.alloc, units),
+        Err(fault) => Ok(format!(in world.alloc; "no units: {fault:?}")?),
+    }
+}
+
+fn show_units(alloc: Global, units: &Units) -> Result<String> {
+    let count = units.count();
+    let mut line = format!(in alloc; "{count} units")?;
+    if count <= SHOWN {
+        for number in 0..count {
+            line.push_str(&unit_of(alloc, units, number)?)?;
+        }
+    }
+    Ok(line)
+}
+
+/// A unit as its bytes and the number of its range.
+fn unit_of(alloc: Global, units: &Units, number: u64) -> Result<String> {
+    if number >= units.count() {
+        bail!("no such unit");
+    }
+    let span = units.span(number);
+    let at = span.at;
+    let len = span.len;
+    let range = units.range_of(number);
+    Ok(format!(in alloc; " {at}+{len} of {range}")?)
+}
+
+fn one_unit(world: &World, size: u64, block: u32, unit: u32, number: u64) -> Result<String> {
+    match &units_of(world, size, block, unit)? {
+        Ok(units) => {
+            let text = unit_of(world.alloc, units, number)?;
+            Ok(format!(in world.alloc; "unit {number}{text}")?)
+        }
+        Err(fault) => Ok(format!(in world.alloc; "no units: {fault:?}")?),
+    }
+}
