@@ -1,11 +1,12 @@
 //! Steps on a cover, on the map that is made of it, and on the map's units.
+ghost use Rattle.block_map.specs.Maps.{IsMap};
+
 use crate::arguments::Arguments;
-use crate::file_steps::done;
 use crate::showing::hex_of;
 use crate::world::World;
 use anyhow::{Result, bail};
 use base_fields::Span;
-use block_map::{BlockMap, Range, UnitFault, Units};
+use block_map::{BlockMap, MAX_RANGES, Range, UnitFault, Units};
 use hex::FromHex;
 use std::alloc::Global;
 
@@ -14,9 +15,6 @@ const END: u64 = 1 << 44;
 
 /// The most bytes of an image that has a map.
 const SIZE: u64 = 1 << 43;
-
-/// The most ranges of a map.
-const RANGES: usize = 262_144;
 
 /// The most units that are shown themselves.
 const SHOWN: u64 = 20;
@@ -38,11 +36,11 @@ pub enum CoverStep {
         size: u64,
         block: u32,
     },
-    /// The ranges of the map, of which some are given a digest.
+    /// The map, of which one range may be given a digest.
     Map {
         size: u64,
         block: u32,
-        digests: Vec<RangeDigest>,
+        digest: Option<RangeDigest>,
     },
     Units {
         size: u64,
@@ -66,7 +64,7 @@ pub struct RangeDigest {
 }
 
 impl CoverStep {
-    pub fn read(alloc: Global, verb: &str, words: &mut Arguments) -> Result<Option<CoverStep>> {
+    pub fn read(verb: &str, words: &mut Arguments) -> Result<Option<CoverStep>> {
         let step = match verb {
             "cover-add" => CoverStep::Add {
                 span: read_span(words)?,
@@ -81,7 +79,7 @@ impl CoverStep {
                 size: words.number("a size")?,
                 block: words.word("a block's size")?,
             },
-            "map" => read_map(alloc, words)?,
+            "map" => read_map(words)?,
             "units" => CoverStep::Units {
                 size: words.number("a size")?,
                 block: words.word("a block's size")?,
@@ -102,8 +100,8 @@ impl CoverStep {
             CoverStep::Map {
                 size,
                 block,
-                digests,
-            } => map(world, size, block, &digests),
+                digest,
+            } => map(world, size, block, digest),
             CoverStep::Units { size, block, unit } => units(world, size, block, unit),
             CoverStep::Unit {
                 size,
@@ -121,20 +119,18 @@ fn read_span(words: &mut Arguments) -> Result<Span> {
     Ok(Span { at, len })
 }
 
-fn read_map(alloc: Global, words: &mut Arguments) -> Result<CoverStep> {
+fn read_map(words: &mut Arguments) -> Result<CoverStep> {
     let size = words.number("a size")?;
     let block = words.word("a block's size")?;
-    let mut digests = Vec::new(alloc);
-    for _ in 0..words.left() {
-        if words.is_empty() {
-            break;
-        }
-        digests.push(read_digest(words)?)?;
-    }
+    let digest = if words.is_empty() {
+        None
+    } else {
+        Some(read_digest(words)?)
+    };
     Ok(CoverStep::Map {
         size,
         block,
-        digests,
+        digest,
     })
 }
 
@@ -198,42 +194,66 @@ fn meets(world: &World, span: Span) -> Result<String> {
 
 fn runs(world: &World, size: u64, block: u32) -> Result<String> {
     if block == 0 {
-        return done(world.alloc);
+        bail!("no size of a block");
     }
     let runs = world.cover.runs(world.alloc, size, block)?;
     let text = spans_of(world.alloc, runs.as_slice())?;
     Ok(format!(in world.alloc; "runs{text}")?)
 }
 
-fn map(world: &World, size: u64, block: u32, digests: &[RangeDigest]) -> Result<String> {
+fn map(world: &World, size: u64, block: u32, digest: Option<RangeDigest>) -> Result<String> {
     if size > SIZE || !block.is_power_of_two() || block < 512 || block > 65_536 {
         bail!("no size of an image or of a block");
     }
-    if world.cover.spans().len() > RANGES {
+    if world.cover.spans().len() > MAX_RANGES {
         bail!("too many spans");
     }
-    let mut map = BlockMap::from_cover(world.alloc, &world.cover, size, block)?;
-    for given in digests {
-        if given.range < map.ranges.len() {
-            map.set_digest(given.range, given.digest);
-        }
-    }
-    ranges(world.alloc, map.ranges.as_slice())
+    let map = BlockMap::from_cover(world.alloc, &world.cover, size, block)?;
+    show_map(world.alloc, &with_digest(map, digest))
 }
 
-/// Each range as its first and its last block, and its digest.
-fn ranges(alloc: Global, ranges: &[Range]) -> Result<String> {
-    let mut line = String::from_str(alloc, "ranges")?;
-    for range in ranges {
-        let first = range.first;
-        let last = range.last;
-        write!(line, " {first}-{last}")?;
-        if let Some(digest) = &range.digest {
-            line.push_str(" sha256=")?;
-            line.push_str(&hex_of(alloc, digest)?)?;
+fn with_digest(mut map: BlockMap, given: Option<RangeDigest>) -> BlockMap
+    requires { IsMap map }
+    ensures { IsMap result }
+{
+    match given {
+        Some(given) if given.range < map.ranges.len() => {
+            map.set_digest(given.range, given.digest);
+            map
         }
+        _ => map,
+    }
+}
+
+/// How many blocks there are and how many are mapped, and each range as its first and last block, its bytes and its
+/// digest.
+fn show_map(alloc: Global, map: &BlockMap) -> Result<String>
+    requires { IsMap map.now }
+{
+    let blocks = map.block_count();
+    let mapped = map.mapped_count();
+    let mut line = format!(in alloc; "{blocks} blocks, {mapped} mapped")?;
+    for k in 0..map.ranges.len() {
+        let span = map.range_bytes(k);
+        let at = span.at;
+        let len = span.len;
+        if let Some(range) = map.ranges.get(k) {
+            put_range(alloc, &mut line, range)?;
+        }
+        write!(line, " at {at}+{len}")?;
     }
     Ok(line)
+}
+
+fn put_range(alloc: Global, line: &mut String, range: &Range) -> Result<()> {
+    let first = range.first;
+    let last = range.last;
+    write!(line, " {first}-{last}")?;
+    if let Some(digest) = &range.digest {
+        line.push_str(" sha256=")?;
+        line.push_str(&hex_of(alloc, digest)?)?;
+    }
+    Ok(())
 }
 
 /// The units of the map, or the fault that there are too many.
@@ -244,7 +264,7 @@ fn units_of(world: &World, size: u64, block: u32, unit: u32) -> Result<Result<Un
     if !unit.is_power_of_two() || unit < 65_536 || unit > 4_194_304 {
         bail!("no size of a unit");
     }
-    if world.cover.spans().len() > RANGES {
+    if world.cover.spans().len() > MAX_RANGES {
         bail!("too many spans");
     }
     let map = BlockMap::from_cover(world.alloc, &world.cover, size, block)?;

@@ -49,7 +49,7 @@ impl Step {
         if let Some(step) = TextStep::read(alloc, &verb, words)? {
             return Ok(Step::Texts(step));
         }
-        if let Some(step) = CoverStep::read(alloc, &verb, words)? {
+        if let Some(step) = CoverStep::read(&verb, words)? {
             return Ok(Step::Cover(step));
         }
         if let Some(step) = SparseStep::read(&verb, words)? {

@@ -50,6 +50,10 @@ pub enum TableStep {
     Attributes {
         flags: Flags,
     },
+    /// The units of a partition's name.
+    NameUnits {
+        name: Vec<u8>,
+    },
 }
 
 impl TableStep {
