@@ -1,1 +1,2 @@
 -- definitions that contracts cite
+pub mod Handing

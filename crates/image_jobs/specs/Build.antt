@@ -1,21 +1,20 @@
--- What `build` answers over files that are told, in the order in which it looks for its refusals.
+-- What a build makes over files that are told, in the order in which it looks for its refusals.
 use Rattle.std.specs.Prelude.{ℕ, ◌^◌, nat_le, List, [], length, Option, Some, None, Result, Ok, Err}
+use Rattle.base_fields.specs.Results.{◌>>=◌, or_else, refused_by, when}
 use Rattle.base_fields.specs.declared.names.Pair.{Pair}
 use Rattle.outside.specs.Files.{Tree}
 use Rattle.answer_lines.specs.declared.answer.Answer.{Answer}
-use Rattle.answer_lines.specs.declared.answer.Answer.TheVariants.{Usage, BadText, UnknownKey, BadValue, Unset, DeepInclude, TooLong, TooFar, Missing, SourceShort, FileFault, NoMemory, NotBuilt}
+use Rattle.answer_lines.specs.declared.answer.Answer.TheVariants.{BadText, UnknownKey, BadValue, Unset, DeepInclude, TooLong}
+use Rattle.answer_lines.specs.declared.answer.Answer.TheVariants.{TooFar, Missing, SourceShort, FileFault, NoMemory, NotBuilt}
 use Rattle.conf_sections.specs.declared.fault.ConfFault.{ConfFault}
 use Rattle.conf_sections.specs.declared.fault.ConfFault.TheVariants as conf
 use Rattle.conf_sections.specs.Reading.{resolved}
-use Rattle.conf_walk.specs.Walk.{◌>>=◌, or_else, refused_by, when}
 use Rattle.image_jobs.specs.Layout.{Layout, one_part}
 use Rattle.image_jobs.specs.declared.request.Request.{Request}
 use Rattle.image_jobs.specs.declared.task.OneImage.{OneImage}
 use Rattle.image_jobs.specs.declared.task.Task.{Task}
 use Rattle.image_jobs.specs.declared.task.Task.TheVariants.{Nothing, Image}
-use Rattle.image_jobs.specs.Request.{request_of}
 use Rattle.image_jobs.specs.Task.{task_of}
-use Rattle.job_words.specs.Jobs.{job_of}
 
 -- an image, and a part of it, have at most these bytes
 abbrev pub size_limit : ℕ
@@ -51,11 +50,6 @@ abbrev pub laid : Tree → Task → Result (Option Layout) Answer
 laid file Nothing = Ok None
 laid file (Image one) = placed file one >>= λ layout. Ok (Some layout)
 
--- what a request is to make, or its refusal
-abbrev pub asked : Option Request → List Pair → Tree → Result (Option Layout) Answer
-asked None vars file = Err Usage
-asked (Some request) vars file = said file vars request >>= laid file
-
--- the layout that the words ask for, if any, or their refusal
-abbrev pub planned : List (List ℕ) → List Pair → Tree → Result (Option Layout) Answer
-planned words vars file = asked (request_of (job_of words)) vars file
+-- the layout that a request asks for, if any, or its refusal
+abbrev pub planned : Request → List Pair → Tree → Result (Option Layout) Answer
+planned request vars file = said file vars request >>= laid file

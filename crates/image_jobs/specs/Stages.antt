@@ -1,8 +1,8 @@
--- What each stage of `build` gives of the plan, and the answer that its fault stands for.
-use Rattle.std.specs.Prelude.{◌≡◌, [], Result, Ok, Err}
-use Rattle.outside.specs.Counts.{Counts, Rose}
+-- The answer that each fault of a stage of the build stands for, and which are no matter of the plan.
+use Rattle.std.specs.Prelude.{◌≡◌, ℕ, ◌+◌, ◌<◌, ◌≤◌, Bool, true, false, IsTrue, []}
 use Rattle.outside.specs.declared.files.ComposeFault.{ComposeFault}
 use Rattle.outside.specs.declared.files.ComposeFault.TheVariants as compose
+use Rattle.answer_lines.specs.Kind.{Kind, Finished, LineFailed, Counted, Refused, kind_of}
 use Rattle.answer_lines.specs.declared.answer.Answer.{Answer}
 use Rattle.answer_lines.specs.declared.answer.Answer.TheVariants.{TooFar, Missing, SourceShort, FileFault, NoMemory, NotBuilt}
 use Rattle.image_jobs.specs.declared.building.PlaceFault.{PlaceFault}
@@ -32,26 +32,19 @@ compose_answer one compose.FileFault = FileFault
 compose_answer one (compose.SourceShort part at) = SourceShort one.source at
 compose_answer one compose.NoMemory = NoMemory
 
--- a refusal is the wanted one, or a call failed or memory was refused
-abbrev pub Refuses : {A : Type 0} → Result A Answer → Answer → Type 0
-Refuses wanted FileFault = Unit {0}
-Refuses wanted NoMemory = Unit {0}
-Refuses wanted refusal = wanted ≡ Err refusal
+abbrev pub is_fault : Kind → Bool
+is_fault (Finished said) = false
+is_fault LineFailed = false
+is_fault Counted = true
+is_fault Refused = false
 
--- what a stage gives is what is wanted, or its refusal is
-abbrev pub Gives : {A B F : Type 0} → Result B Answer → (A → B) → (F → Answer) → Result A F → Type 0
-Gives wanted view answer (Ok x) = wanted ≡ Ok (view x)
-Gives wanted view answer (Err fault) = Refuses wanted (answer fault)
+-- a call failed or memory was refused
+abbrev pub is_counted : Answer → Bool
+is_counted answer = is_fault (kind_of answer)
 
--- a refusal of the files has risen counts
-abbrev pub Counted : Counts → Counts → Answer → Type 0
-Counted before now FileFault = Rose before.faults now.faults
-Counted before now (Missing name) = Rose before.absences now.absences
-Counted before now (SourceShort name at) = Rose before.ends now.ends
-Counted before now other = Unit {0}
-
--- a failed call or a want of memory, and nothing else
-abbrev pub OnlyCounted : Answer → Type 0
-OnlyCounted FileFault = Unit {0}
-OnlyCounted NoMemory = Unit {0}
-OnlyCounted other = ⊥
+-- the byte that lacks is one of these
+abbrev pub LacksWithin : ℕ → ℕ → ComposeFault → Type 0
+LacksWithin from len (compose.SourceShort part at) = (from ≤ at) × (at < from + len)
+LacksWithin from len (compose.Missing part) = Unit {0}
+LacksWithin from len compose.FileFault = Unit {0}
+LacksWithin from len compose.NoMemory = Unit {0}

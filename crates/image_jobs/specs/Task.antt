@@ -2,6 +2,7 @@
 use Rattle.std.specs.Prelude.{◌≢◌, ℕ, ◌&&◌, nat_eq, Bool, true, false, not, List, [], ◌∷◌, Option, Some, None, is_none, option_and_then, option_map, unwrap_or, if◌then◌else◌}
 use Rattle.std.specs.List.{list_any}
 use Rattle.std.specs.Str.{bytes_eq}
+use Rattle.base_fields.specs.Results.{provided}
 use Rattle.base_fields.specs.declared.spans.TableKind.{TableKind}
 use Rattle.base_fields.specs.declared.spans.TableKind.TheVariants as table
 use Rattle.conf_keys.specs.declared.conf.Conf.{Conf}
@@ -82,9 +83,6 @@ named request conf image part source = record {
 -- the image is neither its own source nor a text
 abbrev pub stands_alone : List (List ℕ) → OneImage → Bool
 stands_alone texts one = not (bytes_eq one.image one.source) && not (list_any (λ text. bytes_eq text one.image) texts)
-
-abbrev pub provided : Bool → OneImage → Option OneImage
-provided passes one = if passes then Some one else None
 
 -- the image of a part that is a file
 abbrev pub of_part : Request → Conf → ImageSection → PartitionSection → List ℕ → Option OneImage

@@ -1,9 +1,11 @@
-ghost use Rattle.std.specs.Prelude.{◌≡◌, ◌≢◌, ◌<◌, ◌≤◌, ◌^◌, length, IfErr, IfOk, OnOk};
+ghost use Rattle.std.specs.Prelude.{◌≡◌, ◌≢◌, ◌<◌, ◌≤◌, ◌^◌, length, IfErr, IfOk, IsTrue, OnOk};
 ghost use Rattle.outside.specs.Counts.{NoneFell};
 ghost use Rattle.outside.specs.Files.{IsThere, OthersStay, bytes_of};
+ghost use Rattle.job_stages.specs.Stages.{Gives};
 ghost use Rattle.image_jobs.specs.Build.{placed, said};
 ghost use Rattle.image_jobs.specs.Layout.{Built, one_part};
-ghost use Rattle.image_jobs.specs.Stages.{Counted, Gives, OnlyCounted, compose_answer, place_answer, task_answer};
+ghost use Rattle.image_jobs.specs.BuildArm.{IsShown};
+ghost use Rattle.image_jobs.specs.Stages.{LacksWithin, compose_answer, is_counted, place_answer, task_answer};
 ghost use Rattle.image_jobs.specs.Task.{IsApart};
 
 use crate::request::Request;
@@ -52,9 +54,9 @@ pub fn read_task<F: Files>(
     vars: &Vars,
 ) -> Result<Task, ReadFault>
     ensures none_fell { NoneFell (F.counts files.old) (F.counts files.new) }
-    ensures counted { IfErr result (λ fault. Counted (F.counts files.old) (F.counts files.new) (task_answer fault)) }
+    ensures counted { IfErr result (λ fault. IsShown (F.counts files.old) (F.counts files.new) (task_answer fault)) }
     ensures same_files { F.file files.new ≡ F.file files.old }
-    ensures gives { F.told → Gives (said (F.file files.old) vars.now request.now) (λ task. task) task_answer result }
+    ensures gives { F.told → Gives is_counted (said (F.file files.old) vars.now request.now) (λ task. task) task_answer result }
     ensures apart { IfOk result IsApart }
 {
     let conf = match read_conf(alloc, files, request.conf.text(), vars) {
@@ -70,9 +72,9 @@ pub fn read_task<F: Files>(
 /// The length of the one part, which is the whole image.
 pub fn place<F: Files>(files: &mut F, one: &OneImage) -> Result<u64, PlaceFault>
     ensures none_fell { NoneFell (F.counts files.old) (F.counts files.new) }
-    ensures counted { IfErr result (λ fault. Counted (F.counts files.old) (F.counts files.new) (place_answer one.now fault)) }
+    ensures counted { IfErr result (λ fault. IsShown (F.counts files.old) (F.counts files.new) (place_answer one.now fault)) }
     ensures same_files { F.file files.new ≡ F.file files.old }
-    ensures gives { F.told → Gives (placed (F.file files.old) one.now) (one_part one.now.image one.now.source) (place_answer one.now) result }
+    ensures gives { F.told → Gives is_counted (placed (F.file files.old) one.now) (one_part one.now.image one.now.source) (place_answer one.now) result }
     ensures limit { IfOk result (λ len. len ≤ 2 ^ 43) }
     ensures there { F.told → IfOk result (λ len. IsThere (F.file files.old) one.now.source (len ≡ length (bytes_of (F.file files.old) one.now.source))) }
 {
@@ -94,10 +96,11 @@ pub fn compose<F: Files>(
     requires apart { one.now.image ≢ one.now.source }
     requires limit { len ≤ 2 ^ 43 }
     ensures none_fell { NoneFell (F.counts files.old) (F.counts files.new) }
-    ensures counted { IfErr result (λ fault. Counted (F.counts files.old) (F.counts files.new) (compose_answer one.now fault)) }
+    ensures counted { IfErr result (λ fault. IsShown (F.counts files.old) (F.counts files.new) (compose_answer one.now fault)) }
+    ensures lacks { IfErr result (LacksWithin 0 len) }
     ensures others { OthersStay one.now.image (F.file files.old) (F.file files.new) }
     ensures built { F.told → OnOk result (Built (one_part one.now.image one.now.source len) (F.file files.old) (F.file files.new)) }
-    ensures gives { F.told → IsThere (F.file files.old) one.now.source (len ≡ length (bytes_of (F.file files.old) one.now.source)) → IfErr result (λ fault. OnlyCounted (compose_answer one.now fault)) }
+    ensures gives { F.told → IsThere (F.file files.old) one.now.source (len ≡ length (bytes_of (F.file files.old) one.now.source)) → IfErr result (λ fault. IsTrue (is_counted (compose_answer one.now fault))) }
 {
     let Ok(mut buffer) = room(alloc, BUFFER) else {
         return Err(ComposeFault::NoMemory);

@@ -1,6 +1,7 @@
 //! The commands: from their words to their answer, over any files and any printer.
 #![tactic(auto)]
 
+mod build_arm;
 mod building;
 mod printing;
 mod request;
@@ -9,6 +10,3 @@ mod task;
 
 pub use conf_sections::Vars;
 pub use running::run;
-
-#[cfg(test)]
-mod tests;

@@ -1,15 +1,14 @@
 ghost use Rattle.std.specs.Prelude.{◌≡◌, ◌≤◌, OnOk, OnErr, [], ◌∷◌};
 ghost use Rattle.outside.specs.Counts.{Rose};
 ghost use Rattle.outside.specs.Printer.{added};
-ghost use Rattle.answer_lines.specs.Answer.{built_text, error_text, image_text};
+ghost use Rattle.answer_lines.specs.Answer.{error_text};
+ghost use Rattle.answer_lines.specs.Lines.{built_text, image_text};
 ghost use Rattle.answer_lines.specs.declared.answer.Report.TheVariants as report;
-ghost use Rattle.image_jobs.specs.Run.{IsRefusal, LineAnswer, Prints};
+ghost use Rattle.job_stages.specs.Printing.{Prints};
+ghost use Rattle.image_jobs.specs.Printed.{IsRefusal, Reports, reported_of};
 
-use answer_lines::{Answer, Report, built_line, error_line, image_line};
+use answer_lines::{Answer, LINE_ROOM, Report, built_line, error_line, image_line};
 use outside::{PrintErr, Printer};
-
-/// The most bytes of a line.
-const LINE_ROOM: usize = 1024;
 
 /// Prints the line of a refusal, which is the answer whether or not the line fails.
 pub fn refuse<P: Printer>(refusal: Answer, out: &mut P) -> Answer
@@ -27,26 +26,32 @@ pub fn refuse<P: Printer>(refusal: Answer, out: &mut P) -> Answer
 
 /// Prints the lines of a build that is done, and answers so.
 pub fn report_built<P: Printer>(image: &str, size: u64, out: &mut P) -> Answer
-    ensures answer { LineAnswer (report.Built 1) (P.faults out.old) (P.faults out.new) result }
+    ensures answer { Reports (report.Built 1) (P.faults out.old) (P.faults out.new) result }
     ensures prints { Prints (image_text image.now size ∷ built_text 1 ∷ []) (P.lines out.old) (P.lines out.new) (P.faults out.old) (P.faults out.new) }
     ensures none_fell { P.faults out.old ≤ P.faults out.new }
 {
-    match print_built(image, size, out) {
-        Ok(()) => Answer::Done(Report::Built { images: 1 }),
-        Err(PrintErr) => Answer::PrintFault,
-    }
+    let printed = print_built(image, size, out);
+    reported(printed, Report::Built { images: 1 })
 }
 
 /// Prints the line of a build of no image, and answers so.
 pub fn report_nothing<P: Printer>(out: &mut P) -> Answer
-    ensures answer { LineAnswer (report.Built 0) (P.faults out.old) (P.faults out.new) result }
+    ensures answer { Reports (report.Built 0) (P.faults out.old) (P.faults out.new) result }
     ensures prints { Prints (built_text 0 ∷ []) (P.lines out.old) (P.lines out.new) (P.faults out.old) (P.faults out.new) }
     ensures none_fell { P.faults out.old ≤ P.faults out.new }
 {
     let mut room = [0; LINE_ROOM];
     let length = built_line(0, &mut room);
-    match out.line(&room[..length]) {
-        Ok(()) => Answer::Done(Report::Built { images: 0 }),
+    let printed = out.line(&room[..length]);
+    reported(printed, Report::Built { images: 0 })
+}
+
+// The answer where the work is done and these lines were printed, or one wasn't.
+fn reported(printed: Result<(), PrintErr>, report: Report) -> Answer
+    ensures { result ≡ reported_of printed report }
+{
+    match printed {
+        Ok(()) => Answer::Done(report),
         Err(PrintErr) => Answer::PrintFault,
     }
 }

@@ -1,6 +1,5 @@
 ghost use Rattle.std.specs.Prelude.{◌≡◌, map, string_bytes, IfOk, IsErrOf, None, Some, unwrap_or};
-ghost use Rattle.job_words.specs.Jobs.{job_of};
-ghost use Rattle.image_jobs.specs.Request.{request_of};
+ghost use Rattle.image_jobs.specs.Asked.{asked};
 
 use base_fields::Name;
 use job_words::{Job, WordFault, read_words};
@@ -15,21 +14,27 @@ pub struct Request {
     pub output: Option<Name>,
 }
 
-/// The build that the words ask for. Commands that aren't there yet are no words.
-pub fn requested(alloc: Global, words: &Vec<String>) -> Result<Request, WordFault>
-    ensures ok { IfOk result (λ asked. request_of (job_of (map string_bytes words.now.items)) ≡ Some asked) }
-    ensures usage { IsErrOf result WordFault.Usage → request_of (job_of (map string_bytes words.now.items)) ≡ None }
+/// A job that `run` has an arm for.
+#[derive(Debug, Drop)]
+pub enum Command {
+    Build(Request),
+}
+
+/// The command that the words ask for. A job that `run` has no arm for yet is as no words.
+pub fn asked(alloc: Global, words: &Vec<String>) -> Result<Command, WordFault>
+    ensures ok { IfOk result (λ command. asked (map string_bytes words.now.items) ≡ Some command) }
+    ensures usage { IsErrOf result WordFault.Usage → asked (map string_bytes words.now.items) ≡ None }
 {
     match read_words(alloc, words)? {
         Job::Build {
             conf,
             inputpath,
             outputpath,
-        } => Ok(Request {
+        } => Ok(Command::Build(Request {
             conf,
             input: inputpath,
             output: outputpath,
-        }),
+        })),
         _ => Err(WordFault::Usage),
     }
 }

@@ -1,24 +1,23 @@
-ghost use Rattle.std.specs.Prelude.{◌≡◌, [], ◌∷◌, map, string_bytes, option_copied};
+ghost use Rattle.std.specs.Prelude.{◌≡◌, ◌≤◌, [], ◌∷◌, map, string_bytes};
 ghost use Rattle.outside.specs.Counts.{NoneFell};
 ghost use Rattle.answer_lines.specs.Answer.{error_text};
-ghost use Rattle.image_jobs.specs.Build.{conf_answer, planned};
-ghost use Rattle.image_jobs.specs.Run.{Answers, Changes, HasBuilt, HasCause, IsRefusal, Prints, lines_of};
-ghost use Rattle.image_jobs.specs.Stages.{compose_answer, place_answer, task_answer};
+ghost use Rattle.job_stages.specs.Printing.{Prints};
+ghost use Rattle.image_jobs.specs.Printed.{IsRefusal};
+ghost use Rattle.image_jobs.specs.Asked.{asked};
+ghost use Rattle.image_jobs.specs.Run.{Answers, Changes, HasCause, HasMade, IsUsage, lines_of};
 
-use crate::building::{PlaceFault, ReadFault, SIZE_LIMIT, compose, place, read_task};
-use crate::printing::{refuse, report_built, report_nothing};
-use crate::request::requested;
-use crate::task::{OneImage, Task, TaskFault};
+use crate::build_arm::run_build;
+use crate::printing::refuse;
+use crate::request::{Command, asked};
 use answer_lines::Answer;
-use base_fields::Name;
-use conf_sections::{ConfFault, Vars};
+use conf_sections::Vars;
 use job_words::WordFault;
-use outside::{ComposeFault, Files, Printer};
+use outside::{Files, Printer};
 use std::alloc::Global;
 
 /// Does what the words say, over these files, and prints its lines: `build CONF` makes the image of the
-/// configuration CONF, whose variables are these. The plan is a function of the words, of the variables and of the
-/// files as they are told.
+/// configuration CONF, whose variables are these. Commands that aren't there yet are no words. Each clause goes by
+/// what the words ask for; the plan is a function of that, of the variables and of the files as they are told.
 pub fn run<F: Files, P: Printer>(
     alloc: Global,
     words: &Vec<String>,
@@ -26,96 +25,28 @@ pub fn run<F: Files, P: Printer>(
     files: &mut F,
     out: &mut P,
 ) -> Answer
+    ensures usage { IsUsage (asked (map string_bytes words.now.items)) result }
+
     // The answer is the planned one, or a counted fault, or a want of memory.
-    ensures answers { F.told → Answers (planned (map string_bytes words.now.items) vars.now (F.file files.old)) result }
-    ensures cause { HasCause (F.counts files.old) (F.counts files.new) (P.faults out.old) (P.faults out.new) result }
+    ensures answers { F.told → Answers (asked (map string_bytes words.now.items)) vars.now (F.file files.old) result }
+    ensures cause { HasCause (asked (map string_bytes words.now.items)) (F.counts files.old) (F.counts files.new) (P.faults out.old) (P.faults out.new) result }
     ensures none_fell { NoneFell (F.counts files.old) (F.counts files.new) }
+    ensures none_fell_lines { P.faults out.old ≤ P.faults out.new }
 
     // Where the work is done, each byte of the image is the one that the layout names. Every other name is as before.
-    ensures built { F.told → HasBuilt (planned (map string_bytes words.now.items) vars.now (F.file files.old)) (F.file files.old) (F.file files.new) result }
-    ensures changes { F.told → Changes (planned (map string_bytes words.now.items) vars.now (F.file files.old)) (F.file files.old) (F.file files.new) }
+    ensures built { F.told → HasMade (asked (map string_bytes words.now.items)) vars.now (F.file files.old) (F.file files.new) result }
+    ensures changes { F.told → Changes (asked (map string_bytes words.now.items)) vars.now (F.file files.old) (F.file files.new) }
 
-    ensures prints { F.told → Prints (lines_of (planned (map string_bytes words.now.items) vars.now (F.file files.old)) result) (P.lines out.old) (P.lines out.new) (P.faults out.old) (P.faults out.new) }
+    ensures prints { F.told → Prints (lines_of (asked (map string_bytes words.now.items)) vars.now (F.file files.old) result) (P.lines out.old) (P.lines out.new) (P.faults out.old) (P.faults out.new) }
     // The line of a refusal is a matter of the answer alone.
     ensures refuses { IsRefusal result → Prints (error_text result ∷ []) (P.lines out.old) (P.lines out.new) (P.faults out.old) (P.faults out.new) }
 {
-    let request = match requested(alloc, words) {
-        Ok(request) => request,
+    let command = match asked(alloc, words) {
+        Ok(command) => command,
         Err(WordFault::Usage) => return refuse(Answer::Usage, out),
         Err(WordFault::NoMemory) => return refuse(Answer::NoMemory, out),
     };
-    let one = match read_task(alloc, files, &request, vars) {
-        Ok(Task::Image(one)) => one,
-        Ok(Task::Nothing) => return report_nothing(out),
-        Err(fault) => return refuse(answer_of_task(alloc, fault), out),
-    };
-    let size = match place(files, &one) {
-        Ok(size) => size,
-        Err(fault) => return refuse(answer_of_place(one, fault), out),
-    };
-    if let Err(fault) = compose(alloc, files, &one, size) {
-        return refuse(answer_of_compose(one, fault), out);
-    }
-    report_built(one.image.text(), size, out)
-}
-
-// The answer of a fault of the configuration or of what it asks for.
-fn answer_of_task(alloc: Global, fault: ReadFault) -> Answer
-    ensures { result ≡ task_answer fault }
-{
-    match fault {
-        ReadFault::Conf(fault) => answer_of_conf(fault),
-        ReadFault::Task(TaskFault::NotBuilt) => Answer::NotBuilt {
-            name: Name::from_string(String::new(alloc)),
-        },
-        ReadFault::Task(TaskFault::NoMemory) => Answer::NoMemory,
-    }
-}
-
-// The answer of a fault of the configuration.
-fn answer_of_conf(fault: ConfFault) -> Answer
-    ensures { result ≡ conf_answer fault }
-{
-    match fault {
-        ConfFault::BadText { name, place } => Answer::BadText { name, place },
-        ConfFault::UnknownKey { name, place } => Answer::UnknownKey { name, place },
-        ConfFault::BadValue { name, place } => Answer::BadValue { name, place },
-        ConfFault::Unset { var } => Answer::Unset { var },
-        ConfFault::DeepInclude { name } => Answer::DeepInclude { name },
-        ConfFault::TooLong { total } => Answer::TooLong { total },
-        ConfFault::Missing { name } => Answer::Missing { name },
-        ConfFault::SourceShort { name, at } => Answer::SourceShort { name, at },
-        ConfFault::FileFault => Answer::FileFault,
-        ConfFault::NoMemory => Answer::NoMemory,
-    }
-}
-
-// The answer of a fault of the placing.
-fn answer_of_place(one: OneImage, fault: PlaceFault) -> Answer
-    ensures { result ≡ place_answer one fault }
-{
-    match fault {
-        PlaceFault::Missing => Answer::Missing { name: one.source },
-        PlaceFault::FileFault => Answer::FileFault,
-        PlaceFault::TooFar { number } => Answer::TooFar {
-            part: one.part,
-            number,
-            limit: SIZE_LIMIT,
-        },
-    }
-}
-
-// The answer of a fault of the composing.
-fn answer_of_compose(one: OneImage, fault: ComposeFault) -> Answer
-    ensures { result ≡ compose_answer one fault }
-{
-    match fault {
-        ComposeFault::Missing { .. } => Answer::Missing { name: one.source },
-        ComposeFault::FileFault => Answer::FileFault,
-        ComposeFault::SourceShort { at, .. } => Answer::SourceShort {
-            name: one.source,
-            at,
-        },
-        ComposeFault::NoMemory => Answer::NoMemory,
+    match command {
+        Command::Build(request) => run_build(alloc, &request, vars, files, out),
     }
 }
