@@ -20,40 +20,42 @@ parted (w ∷ xs) (z ∷ ys) zs x y e =
     let head : w ≡ z = cc in
     let tail : xs ++ x ∷ [] ≡ ys ++ y ∷ zs = cc in
     elim (parted xs ys zs x y tail) [
-      inl h ↦ inl (ap (λ v. v ∷ xs) head ∙ ap (λ vs. z ∷ vs) h.0, h.1)
-    | inr h ↦ inr (h.0, ap (λ v. v ∷ xs) head ∙ ap (λ vs. z ∷ vs) h.1)
+      | inl h ↦ inl (ap (λ v. v ∷ xs) head ∙ ap (λ vs. z ∷ vs) h.0, h.1)
+      | inr h ↦ inr (h.0, ap (λ v. v ∷ xs) head ∙ ap (λ vs. z ∷ vs) h.1)
     ]
 
 -- one more item without a fault
 clear_more : (whose : Section) (front : List InnerItem) (item : InnerItem) → IsClear whose front → fault_after whose front item ≡ None → IsClear whose (front ++ item ∷ [])
 clear_more whose front item clear none = λ before one behind split.
     elim (parted front before behind item one split) [
-      inl h ↦ ap (λ items. fault_after whose items one) (sym h.0) ∙ ap (fault_after whose front) (sym h.1) ∙ none
-    | inr h ↦ clear before one h.0 h.1
+      | inl h ↦ ap (λ items. fault_after whose items one) (sym h.0) ∙ ap (fault_after whose front) (sym h.1) ∙ none
+      | inr h ↦ clear before one h.0 h.1
     ]
 
+no_item : (whose : Section) (before : List InnerItem) (one : InnerItem) (behind : List InnerItem) → [] ≡ before ++ one ∷ behind → fault_after whose before one ≡ None
+no_item whose [] one behind split = absurd (cc)
+no_item whose (x ∷ before) one behind split = absurd (cc)
+
 clear_none : (whose : Section) → IsClear whose []
-clear_none whose = λ before one behind split. no before split
-  where
-    no : {one : InnerItem} {behind : List InnerItem} (before : List InnerItem) → [] ≡ before ++ one ∷ behind → fault_after whose before one ≡ None
-    no [] split = absurd (cc)
-    no (x ∷ before) split = absurd (cc)
+clear_none whose = λ before one behind split. no_item whose before one behind split
 
 abbrev Found : Section → List InnerItem → Option SectionFault → Type 0
 Found whose items found = MatchOption found (IsClear whose items) (FailsFirst whose items)
 
-behind : (whose : Section) (front rest : List InnerItem) → IsClear whose front → Found whose (front ++ rest) (fault_behind whose front rest)
-behind whose front [] clear = subst (IsClear whose) (sym (append-nil front)) clear
-behind whose front (item ∷ rest) clear = at (fault_after whose front item) refl
-  where
-    at : (found : Option SectionFault) → fault_after whose front item ≡ found → Found whose (front ++ item ∷ rest) (option_or found (fault_behind whose (front ++ item ∷ []) rest))
-    at (Some fault) e = (front, item, rest, refl, clear, e)
-    at None e =
-        subst (λ items. Found whose items (fault_behind whose (front ++ item ∷ []) rest)) (append_assoc front (item ∷ []) rest)
-        (behind whose (front ++ item ∷ []) rest (clear_more whose front item clear e))
+with_fault : (whose : Section) (front : List InnerItem) (item : InnerItem) (rest : List InnerItem) (here next : Option SectionFault) → IsClear whose front → fault_after whose front item ≡ here
+    → (here ≡ None → Found whose (front ++ item ∷ rest) next) → Found whose (front ++ item ∷ rest) (option_or here next)
+with_fault whose front item rest (Some fault) next clear e further = (front, item, rest, refl, clear, e)
+with_fault whose front item rest None next clear e further = further refl
+
+behind_front : (whose : Section) (front rest : List InnerItem) → IsClear whose front → Found whose (front ++ rest) (fault_behind whose front rest)
+behind_front whose front [] clear = subst (IsClear whose) (sym (append-nil front)) clear
+behind_front whose front (item ∷ rest) clear =
+    with_fault whose front item rest (fault_after whose front item) (fault_behind whose (front ++ item ∷ []) rest) clear refl
+    (λ none. subst (λ items. Found whose items (fault_behind whose (front ++ item ∷ []) rest)) (append_assoc front (item ∷ []) rest)
+    (behind_front whose (front ++ item ∷ []) rest (clear_more whose front item clear none)))
 
 pub first_is : FirstFault
-first_is whose items = behind whose [] items (clear_none whose)
+first_is whose items = behind_front whose [] items (clear_none whose)
 
 -- ---- a section at the top
 

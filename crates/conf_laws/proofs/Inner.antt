@@ -18,7 +18,8 @@ use Rattle.conf_keys.specs.Sections.{hd_section, hd_values, is_lacking, is_wide,
 use Rattle.conf_keys.specs.Settings.{last_text, shape_of}
 use Rattle.conf_keys.proofs.Settled.{IsFitting, IsSingle, faultless, keys_pass, last_fits}
 use Rattle.conf_laws.specs.Accepted.{HdHas, HdStands, PartitionHas, PartitionStands, PlainStands, SparseHas, SparseStands}
-use Rattle.conf_laws.proofs.Stand.{answered, passing_keeps, stands, stands_if, text_stands}
+use Rattle.conf_sections.proofs.Made.{answered}
+use Rattle.conf_laws.proofs.Stand.{passing_keeps, stands, stands_if, text_stands}
 
 -- a key that isn't lacking has a text that fits, where no item has a fault
 abbrev CanFit : Section → List InnerItem → Type 0

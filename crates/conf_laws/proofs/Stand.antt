@@ -4,17 +4,11 @@ use Rattle.std.specs.Prelude.{IsSome, IsSomeAnd, MatchOption, is_none, is_some, 
 use Rattle.std.specs.List.{filter_map}
 use Rattle.conf_items.specs.declared.items.Setting.{Setting}
 use Rattle.base_fields.specs.Results.{passing}
-use Rattle.conf_keys.specs.declared.checking.SectionFault.{SectionFault}
-use Rattle.conf_keys.specs.Sections.{answer, is_lacking}
+use Rattle.conf_keys.specs.Sections.{is_lacking}
 use Rattle.conf_keys.specs.Settings.{last_of, last_text, text_of}
 use Rattle.conf_laws.specs.Accepted.{itself}
 use Rattle.conf_laws.specs.Keys.{HasLast, HasNone, HasText, Stands, StandsIf}
 use Rattle.conf_laws.proofs.Last.{last_is}
-
--- what is answered has no fault
-pub answered : {Keys : Type 0} (fault : Option SectionFault) (values keys : Keys) → answer fault values ≡ Ok keys → (None ≡ fault) × (keys ≡ values)
-answered None values keys e = (refl, cc)
-answered (Some fault) values keys e = absurd (cc)
 
 -- a number that has passed is the one that was read
 pub passing_keeps : (test : ℕ → Bool) (read : Option ℕ) (n : ℕ) → option_and_then (passing test) read ≡ Some n → read ≡ Some n

@@ -14,7 +14,8 @@ use Rattle.conf_keys.specs.Sections.{config_values, flash_head_fault, flash_valu
 use Rattle.conf_keys.specs.Settings.{last_text, shape_of}
 use Rattle.conf_keys.proofs.Settled.{IsFitting, IsSingle, Passes, last_fits, top_faultless, top_keys_pass}
 use Rattle.conf_laws.specs.Accepted.{ConfigHas, ConfigStands, FlashHas, FlashStands}
-use Rattle.conf_laws.proofs.Stand.{answered, passing_keeps, stands_given, text_stands}
+use Rattle.conf_sections.proofs.Made.{answered}
+use Rattle.conf_laws.proofs.Stand.{passing_keeps, stands_given, text_stands}
 
 -- a key that isn't lacking has a text that fits, where no key has a fault
 abbrev pub CanFit : Section → List SectionItem → Type 0

@@ -27,7 +27,7 @@ pub fn first_faults()
 ///
 /// Where a section is read, each of its keys has the value that the text of the last key of that
 /// name stands for, and the default where there is no key of that name.
-#[tactic(auto, using(crate::proofs::Inner::hd_stands, crate::proofs::Inner::sparse_stands, crate::proofs::Inner::plain_stands, crate::proofs::Inner::partition_stands))]
+#[tactic(auto, using(crate::proofs::Inner::plain_stands))]
 pub fn accepted_keys()
     ensures hdimage { HdStands }
     ensures android_sparse { SparseStands }
@@ -38,7 +38,6 @@ pub fn accepted_keys()
 /// Nothing is done: the contract is the law of the keys that are accepted, of sections at the top.
 ///
 /// It says the same as [`accepted_keys`]. The keys of an image itself are those of one that is made.
-#[tactic(auto, using(crate::proofs::Top::config_stands, crate::proofs::Top::flash_stands, crate::proofs::Image::image_stands))]
 pub fn accepted_top_keys()
     ensures config { ConfigStands }
     ensures flash { FlashStands }

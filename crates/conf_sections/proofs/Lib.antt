@@ -1,2 +1,3 @@
--- lemmas of the crate
+-- lemmas of the crate; the laws cite Made
 pub mod Growing
+pub mod Made
