@@ -2,7 +2,7 @@
 use Rattle.std.proofs.Common.{ℕ, ◌+◌, ◌≤◌, ◌∙◌, arith}
 use Rattle.bench.specs.declared.Dev.{Dev}
 use Rattle.bench.specs.declared.Dev.TheVariants.{Target, Journal}
-use Rattle.bench.specs.Meter.{Meter, Bills, Costs, CostsOn, SameNames, of_device}
+use Rattle.bench.specs.Meter.{Meter, Bills, Costs, CostsOn, SameNames}
 
 -- the cost of one call
 pub bills_costs : (dev : Dev) {more : ℕ} {a b : Meter} → Bills dev more a b → Costs (32 + more) a b

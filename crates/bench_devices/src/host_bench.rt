@@ -1,18 +1,23 @@
-ghost use Rattle.std.specs.Prelude.{◌≡◌, ◌≤◌, ℕ, IsSome, IfOk, OnErr, string_bytes, None};
+ghost use Rattle.std.specs.Prelude.{◌≡◌, ◌+◌, ◌≤◌, ◌↔◌, ℕ, IsErr, IsSome, IsTrue, IfOk, OnErr, string_bytes, None};
 ghost use Rattle.std.proofs.Common.{rules};
-ghost use Rattle.bench.specs.Disk.{untold};
-ghost use Rattle.bench_devices.specs.HostBench.{counted, name_of};
-ghost use Rattle.bench.specs.Meter.{of_device};
 ghost use Rattle.bench.specs.declared.Dev.{Dev};
+ghost use Rattle.bench.specs.Disk.{untold};
+ghost use Rattle.bench.specs.Meter.{of_device};
+ghost use Rattle.bench_devices.specs.HostBench.{counted, lost_of, name_of};
 ghost use Rattle.outside.specs.Counts.{IsCount};
 
 use crate::faults::Faults;
+use crate::opening::{Device, open};
 use bench::{Bench, BenchErr, Dev};
-use std::fs::{OpenFile, OpenOptions};
-use std::io::{ErrorKind, Read, Seek, SeekFrom, Write};
+use std::fs::OpenFile;
+use std::io::{ErrorKind, Seek, SeekFrom};
+use std::os::unix::fs::FileExt;
 use std::{io, rt};
 
 /// Real files and devices, each by its path. They tell nothing of what they hold.
+///
+/// Once a sync of a device has failed, every later call on it fails: the system may answer the next sync Ok although
+/// what was written is lost.
 #[derive(Drop)]
 pub struct HostBench<R: rt::Files + AllocGlobal> {
     rt: R,
@@ -22,14 +27,10 @@ pub struct HostBench<R: rt::Files + AllocGlobal> {
     ghost faults_end: { (each : Dev) → IsCount (of_device each faults) },
 }
 
-/// An open file, and the name under which it is attached.
-#[derive(Drop)]
-struct Device<F> {
-    file: F,
-    name: String,
-}
-
-impl<R: rt::Files + AllocGlobal> HostBench<R> {
+impl<R: rt::Files + AllocGlobal> HostBench<R>
+where
+    R::File: FileExt,
+{
     /// No device is attached. Touches no file.
     pub fn new(rt: R) -> HostBench<R>
         ensures { ⟦<HostBench<R> as Bench>⟧.meter result ≡ counted (record { target = 0; journal = 0 }) None None }
@@ -43,7 +44,10 @@ impl<R: rt::Files + AllocGlobal> HostBench<R> {
     }
 }
 
-impl<R: rt::Files + AllocGlobal> Bench for HostBench<R> {
+impl<R: rt::Files + AllocGlobal> Bench for HostBench<R>
+where
+    R::File: FileExt,
+{
     ghost told = { ⊥ };
 
     ghost disk = { λ _. untold };
@@ -61,7 +65,11 @@ impl<R: rt::Files + AllocGlobal> Bench for HostBench<R> {
     ghost counts_end = { λ h dev. h.faults_end dev };
 
     fn attach(&mut self, dev: Dev, name: &str) -> Result<(), BenchErr> {
-        let device = self.faults.counted(dev, open(&self.rt, dev, name))?;
+        let outcome = match dev {
+            Dev::Target => attached(&self.rt, dev, name, &self.target, &self.journal),
+            Dev::Journal => attached(&self.rt, dev, name, &self.journal, &self.target),
+        };
+        let device = self.faults.counted(dev, outcome)?;
         match dev {
             Dev::Target => self.target = Some(device),
             Dev::Journal => self.journal = Some(device),
@@ -107,67 +115,106 @@ impl<R: rt::Files + AllocGlobal> Bench for HostBench<R> {
     }
 }
 
-/// Opens a device for reading and writing. A journal that isn't there is made as an empty file.
-fn open<R: rt::Files + AllocGlobal>(rt: &R, dev: Dev, name: &str) -> io::Result<Device<R::File>>
-    ensures { IfOk result (λ d. string_bytes d.name ≡ name.now) }
+/// Opens a device that takes the place of `own`. Refuses the file that the other device already is, and any device
+/// once a sync of `own` has failed.
+fn attached<R: rt::Files + AllocGlobal>(
+    rt: &R,
+    dev: Dev,
+    name: &str,
+    own: &Option<Device<R::File>>,
+    other: &Option<Device<R::File>>,
+) -> io::Result<Device<R::File>>
+    ensures named { IfOk result (λ d. string_bytes d.name ≡ name.now) }
+    ensures lost { IsTrue (lost_of own.now) → IsErr result }
 {
-    let name = String::from_str(rt.alloc(), name)?;
-    let file = OpenOptions::new()
-        .read(true)
-        .write(true)
-        .create(dev == Dev::Journal)
-        .open(rt, name.as_str())?;
-    Ok(Device { file, name })
+    usable(own)?;
+    let device = open(rt, dev, name)?;
+    match other {
+        Some(other) if other.node.is_same(device.node) => {
+            Err(io::Error::from(ErrorKind::ResourceBusy))
+        }
+        _ => Ok(device),
+    }
+}
+
+/// Fails where a sync of the device has failed.
+fn usable<F>(device: &Option<Device<F>>) -> io::Result<()>
+    ensures { IsErr result ↔ IsTrue (lost_of device.now) }
+{
+    match device {
+        Some(device) if device.lost => Err(io::Error::from(ErrorKind::Other)),
+        _ => Ok(()),
+    }
 }
 
 /// The place of the end, which a block device has too where its metadata says 0.
 fn end_of<F: Seek>(device: &mut Option<Device<F>>) -> io::Result<u64>
     requires { IsSome device.old }
-    ensures { name_of device.new ≡ name_of device.old }
+    ensures name { name_of device.new ≡ name_of device.old }
+    ensures lost { IsTrue (lost_of device.old) → IsErr result }
+    ensures same_lost { lost_of device.new ≡ lost_of device.old }
 {
+    usable(device)?;
     match device {
         Some(device) => device.file.seek(SeekFrom::End(0)),
         None => unreachable!(),
     }
 }
 
-/// Fills the buffer, or fails where the device ends before.
-fn read_from<F: Read + Seek>(
+/// Fills the buffer, or fails where the range isn't inside the length.
+fn read_from<F: FileExt + Seek>(
     device: &mut Option<Device<F>>,
     at: u64,
     buf: &mut [u8],
 ) -> io::Result<()>
     requires { IsSome device.old }
-    ensures { name_of device.new ≡ name_of device.old }
+    ensures name { name_of device.new ≡ name_of device.old }
+    ensures lost { IsTrue (lost_of device.old) → IsErr result }
+    ensures same_lost { lost_of device.new ≡ lost_of device.old }
 {
+    usable(device)?;
     let Some(device) = device else { unreachable!() };
-    device.file.seek(SeekFrom::Start(at))?;
-    device.file.read_exact(buf)
+    let end = device.file.seek(SeekFrom::End(0))?;
+    within(at, buf.len(), end)?;
+    device.file.read_exact_at(buf, at)
 }
 
-/// Writes within the length, or fails where the device ends before.
-fn write_to<F: Write + Seek>(
+/// Writes bytes, or fails where the range isn't inside the length.
+fn write_to<F: FileExt + Seek>(
     device: &mut Option<Device<F>>,
     at: u64,
     bytes: &[u8],
 ) -> io::Result<()>
     requires { IsSome device.old }
-    ensures { name_of device.new ≡ name_of device.old }
+    ensures name { name_of device.new ≡ name_of device.old }
+    ensures lost { IsTrue (lost_of device.old) → IsErr result }
+    ensures same_lost { lost_of device.new ≡ lost_of device.old }
 {
+    usable(device)?;
     let Some(device) = device else { unreachable!() };
     let end = device.file.seek(SeekFrom::End(0))?;
-    if at > end || bytes.len() as u64 > end - at {
-        return Err(io::Error::from(ErrorKind::WriteZero));
+    within(at, bytes.len(), end)?;
+    device.file.write_all_at(bytes, at)
+}
+
+/// Fails where a range, also one of no bytes, doesn't lie before the end.
+fn within(at: u64, len: usize, end: u64) -> io::Result<()>
+    ensures { IfOk result (λ _. at + len ≤ end) }
+{
+    if at > end || len as u64 > end - at {
+        return Err(io::Error::from(ErrorKind::UnexpectedEof));
     }
-    device.file.seek(SeekFrom::Start(at))?;
-    device.file.write_all(bytes)
+    Ok(())
 }
 
 /// Sets the length, or fails where that is below the present one.
 fn lengthen<F: OpenFile + Seek>(device: &mut Option<Device<F>>, len: u64) -> io::Result<()>
     requires { IsSome device.old }
-    ensures { name_of device.new ≡ name_of device.old }
+    ensures name { name_of device.new ≡ name_of device.old }
+    ensures lost { IsTrue (lost_of device.old) → IsErr result }
+    ensures same_lost { lost_of device.new ≡ lost_of device.old }
 {
+    usable(device)?;
     let Some(device) = device else { unreachable!() };
     let end = device.file.seek(SeekFrom::End(0))?;
     if len < end {
@@ -179,11 +226,16 @@ fn lengthen<F: OpenFile + Seek>(device: &mut Option<Device<F>>, len: u64) -> io:
     Ok(())
 }
 
-/// Waits until all that was written is on the disk.
+/// Waits until all that was written, and the length, is on the disk. Where that fails, the device is lost.
 fn settle<F: OpenFile>(device: &mut Option<Device<F>>) -> io::Result<()>
     requires { IsSome device.old }
-    ensures { name_of device.new ≡ name_of device.old }
+    ensures name { name_of device.new ≡ name_of device.old }
+    ensures lost { IsTrue (lost_of device.old) → IsErr result }
+    ensures failed { OnErr result (IsTrue (lost_of device.new)) }
 {
+    usable(device)?;
     let Some(device) = device else { unreachable!() };
-    device.file.sync_all()
+    let outcome = device.file.sync_data();
+    device.lost = outcome.is_err();
+    outcome
 }

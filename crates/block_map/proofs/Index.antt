@@ -39,8 +39,8 @@ rows_more {X} f xs i d below =
 pub first_next : (rows : List (List Span)) (r : ℕ) (d : List Span) → r < length rows → first_of rows (r + 1) ≡ first_of rows r + length (get_or rows r d)
 first_next rows r d below = ap (λ (l : List (List Span)). length (joined l)) (take_more rows r d below) ∙ joined_more (take r rows) (get_or rows r d)
 
-pub part_first : (unit count : ℕ) (parts : List Part) (r : ℕ) (d : Part) → IsIndex unit count parts → r < length parts → first_of (rows_of unit parts) r ≡ (get_or parts r d).first
-part_first unit count parts r d h below =
+pub part_first : (unit size count : ℕ) (parts : List Part) (r : ℕ) (d : Part) → IsIndex unit size count parts → r < length parts → first_of (rows_of unit parts) r ≡ (get_or parts r d).first
+part_first unit size count parts r d h below =
     ap (λ (l : List (List Span)). length (joined l)) (take-map (λ (p : Part). pieces unit p.span) r parts) ∙ sym (h.firsts r d below)
 
 pub row_at : (unit : ℕ) (parts : List Part) (r : ℕ) (d : Part) (e : List Span) → r < length parts → get_or (rows_of unit parts) r e ≡ pieces unit (get_or parts r d).span
@@ -53,7 +53,7 @@ some_parts : (unit k : ℕ) (parts : List Part) → k < length (joined (rows_of 
 some_parts unit k [] h = absurd (omega arith)
 some_parts unit k (p ∷ parts) h = omega arith
 
-first_rises : (rows : List (List Span)) (i j : ℕ) → i ≤ j → first_of rows i ≤ first_of rows j
+pub first_rises : (rows : List (List Span)) (i j : ℕ) → i ≤ j → first_of rows i ≤ first_of rows j
 first_rises rows i j le =
     let whole : take i (take j rows) ++ drop i (take j rows) ≡ take j rows = take-append-drop i (take j rows) in
     let front : take i (take j rows) ≡ take i rows = take-take i j rows le in
@@ -82,16 +82,16 @@ pub one_range : (rows : List (List Span)) (k r s : ℕ) → IsRangeOf rows k r �
 one_range rows k r s h g = let a : r ≤ s = no_earlier rows k r s h g in let b : s ≤ r = no_earlier rows k s r g h in omega arith
 
 -- the numbers of the first units rise
-pub firsts_rise : (unit count : ℕ) (parts : List Part) → IsIndex unit count parts → IsNonDecreasingBy (λ p. p.first) parts
-firsts_rise unit count parts h i j d le below =
+pub firsts_rise : (unit size count : ℕ) (parts : List Part) → IsIndex unit size count parts → IsNonDecreasingBy (λ p. p.first) parts
+firsts_rise unit size count parts h i j d le below =
     let low : (get_or parts i d).first ≡ length (joined (rows_of unit (take i parts))) = h.firsts i d (omega arith) in
     let high : (get_or parts j d).first ≡ length (joined (rows_of unit (take j parts))) = h.firsts j d below in
     let rise : length (joined (rows_of unit (take i parts))) ≤ length (joined (rows_of unit (take j parts))) = rows_rise unit parts i j le in
     omega arith
 
 -- the range of a unit, by the place at which the first units pass it
-pub range_found : (unit count : ℕ) (parts : List Part) (k behind : ℕ) → IsIndex unit count parts → k < length (joined (rows_of unit parts)) → IsPartitionPoint (λ p. p.first ≤ k) (λ p. k < p.first) parts behind → behind ≤ length parts → (0 < behind) × IsRangeOf (rows_of unit parts) k (behind - 1)
-range_found unit count parts k behind h inside point bound =
+pub range_found : (unit size count : ℕ) (parts : List Part) (k behind : ℕ) → IsIndex unit size count parts → k < length (joined (rows_of unit parts)) → IsPartitionPoint (λ p. p.first ≤ k) (λ p. k < p.first) parts behind → behind ≤ length parts → (0 < behind) × IsRangeOf (rows_of unit parts) k (behind - 1)
+range_found unit size count parts k behind h inside point bound =
     let d : Part = record { first = 0; span = record { at = 0; len = 0 } } in
     let some : 0 < length parts = some_parts unit k parts inside in
     let start : (get_or parts 0 d).first ≡ 0 = h.firsts 0 d some in
@@ -102,30 +102,31 @@ range_found unit count parts k behind h inside point bound =
       found,
       record {
         there = omega (arith, rows_length unit parts);
-        from = let early : (get_or parts (behind - 1) d).first ≤ k = point.0 (behind - 1) d (omega arith) (omega arith) in omega (arith, part_first unit count parts (behind - 1) d h (omega arith));
+        from = let early : (get_or parts (behind - 1) d).first ≤ k = point.0 (behind - 1) d (omega arith) (omega arith) in omega (arith, part_first unit size count parts (behind - 1) d h (omega arith));
         to =
             let next : behind - 1 + 1 ≡ behind = omega arith in
             rw next
             (elim (cases_lt behind (length parts)) [
-              | inl more ↦ let late : k < (get_or parts behind d).first = point.1 behind d (omega arith) more in omega (arith, part_first unit count parts behind d h more)
+              | inl more ↦ let late : k < (get_or parts behind d).first = point.1 behind d (omega arith) more in omega (arith, part_first unit size count parts behind d h more)
               | inr last ↦ rw (take_all behind (rows_of unit parts) (omega (arith, rows_length unit parts))) inside
             ]);
       },
     )
 
 -- unit k of the whole, where its range has part p
-pub record IsUnitOf (unit : ℕ) (rows : List (List Span)) (p : Part) (k : ℕ) : Type 0 where
+pub record IsCutAt (unit size : ℕ) (rows : List (List Span)) (p : Part) (k : ℕ) : Type 0 where
   pub from : p.first ≤ k
   pub within : (k - p.first) * unit < p.span.len
+  pub end : p.span.at + p.span.len ≤ size
   pub bounded : p.span.at + p.span.len ≤ 2 ^ 43
   pub is : slice_get (joined rows) k ≡ Some (piece unit p.span (k - p.first))
 
-pub unit_found : (unit count : ℕ) (parts : List Part) (k r : ℕ) (d : Part) → IsIndex unit count parts → IsRangeOf (rows_of unit parts) k r → k < length (joined (rows_of unit parts)) → IsUnitOf unit (rows_of unit parts) (get_or parts r d) k
-unit_found unit count parts k r d h range inside =
+pub unit_found : (unit size count : ℕ) (parts : List Part) (k r : ℕ) (d : Part) → IsIndex unit size count parts → IsRangeOf (rows_of unit parts) k r → k < length (joined (rows_of unit parts)) → IsCutAt unit size (rows_of unit parts) (get_or parts r d) k
+unit_found unit size count parts k r d h range inside =
     let rows : List (List Span) = rows_of unit parts in
     let p : Part = get_or parts r d in
     let there : r < length parts = omega (arith, rows_length unit parts, range.there) in
-    let first : first_of rows r ≡ p.first = part_first unit count parts r d h there in
+    let first : first_of rows r ≡ p.first = part_first unit size count parts r d h there in
     let row : get_or rows r [] ≡ pieces unit p.span = row_at unit parts r d [] there in
     let many : length (get_or rows r []) ≡ div_ceil p.span.len unit = ap (λ (l : List Span). length l) row ∙ pieces_length unit p.span in
     let next : first_of rows (r + 1) ≡ first_of rows r + length (get_or rows r []) = first_next rows r [] range.there in
@@ -136,22 +137,23 @@ unit_found unit count parts k r d h range inside =
     record {
       from = omega (arith, range.from);
       within = begins_within unit p.span.len j h.some below;
-      bounded = h.bounded r d there;
+      end = h.within r d there;
+      bounded = omega (arith, h.within r d there, h.small);
       is = slice_get-get_or (joined rows) k p.span inside
           ∙ ap (λ (s : Span). Some s) (ap (λ (n : ℕ). get_or (joined rows) n p.span) (sym place) ∙ at ∙ ap (λ (l : List Span). get_or l j p.span) row ∙ piece_at unit p.span j p.span below);
     }
 
-pub unit_seen : (unit count : ℕ) (parts : List Part) (rows : List (List Span)) (k r : ℕ) (p : Part) → IsIndex unit count parts → rows_of unit parts ≡ rows → IsRangeOf rows k r → k < length (joined rows) → p ≡ get_or parts r p → IsUnitOf unit rows p k
-unit_seen unit count parts rows k r p h view range inside is =
+pub unit_seen : (unit size count : ℕ) (parts : List Part) (rows : List (List Span)) (k r : ℕ) (p : Part) → IsIndex unit size count parts → rows_of unit parts ≡ rows → IsRangeOf rows k r → k < length (joined rows) → p ≡ get_or parts r p → IsCutAt unit size rows p k
+unit_seen unit size count parts rows k r p h view range inside is =
     let range' : IsRangeOf (rows_of unit parts) k r = subst (λ (l : List (List Span)). IsRangeOf l k r) (sym view) range in
     let inside' : k < length (joined (rows_of unit parts)) = subst (λ (l : List (List Span)). k < length (joined l)) (sym view) inside in
-    let found : IsUnitOf unit (rows_of unit parts) (get_or parts r p) k = unit_found unit count parts k r p h range' inside' in
-    subst (λ (l : List (List Span)). IsUnitOf unit l p k) view (subst (λ (q : Part). IsUnitOf unit (rows_of unit parts) q k) (sym is) found)
+    let found : IsCutAt unit size (rows_of unit parts) (get_or parts r p) k = unit_found unit size count parts k r p h range' inside' in
+    subst (λ (l : List (List Span)). IsCutAt unit size l p k) view (subst (λ (q : Part). IsCutAt unit size (rows_of unit parts) q k) (sym is) found)
 
-pub range_seen : (unit count : ℕ) (parts : List Part) (rows : List (List Span)) (k behind : ℕ) → IsIndex unit count parts → rows_of unit parts ≡ rows → k < length (joined rows) → IsPartitionPoint (λ p. p.first ≤ k) (λ p. k < p.first) parts behind → behind ≤ length parts → (0 < behind) × IsRangeOf rows k (behind - 1)
-range_seen unit count parts rows k behind h view inside point bound =
+pub range_seen : (unit size count : ℕ) (parts : List Part) (rows : List (List Span)) (k behind : ℕ) → IsIndex unit size count parts → rows_of unit parts ≡ rows → k < length (joined rows) → IsPartitionPoint (λ p. p.first ≤ k) (λ p. k < p.first) parts behind → behind ≤ length parts → (0 < behind) × IsRangeOf rows k (behind - 1)
+range_seen unit size count parts rows k behind h view inside point bound =
     let inside' : k < length (joined (rows_of unit parts)) = subst (λ (l : List (List Span)). k < length (joined l)) (sym view) inside in
-    subst (λ (l : List (List Span)). (0 < behind) × IsRangeOf l k (behind - 1)) view (range_found unit count parts k behind h inside' point bound)
+    subst (λ (l : List (List Span)). (0 < behind) × IsRangeOf l k (behind - 1)) view (range_found unit size count parts k behind h inside' point bound)
 
 pub first_point : (parts : List Part) (k i : ℕ) → IsPartitionPoint (λ p. leb p.first k ≡ true) (λ p. leb p.first k ≡ false) parts i → IsPartitionPoint (λ p. p.first ≤ k) (λ p. k < p.first) parts i
 first_point parts k i point = (λ j d low high. leb-true _ _ (point.0 j d low high), λ j d low high. leb-false _ _ (point.1 j d low high))

@@ -1,7 +1,10 @@
 -- lemmas
-mod Cutting
-mod Digests
-mod Index
-mod Pieces
-mod Ranges
-mod Runs
+pub mod Cutting
+pub mod Digests
+pub mod Growing
+pub mod Index
+pub mod Joining
+pub mod Numbering
+pub mod Pieces
+pub mod Ranges
+pub mod Runs

@@ -36,17 +36,17 @@ spans_ascend m h i j d before below =
     let far : ((get_or m.ranges i d).last + 1) * m.block ≤ (get_or m.ranges j d).first * m.block = mul-le-mul_right m.block gap in
     omega (arith, span.next)
 
-both_true : (a b : Bool) → a ≡ true → b ≡ true → (a && b) ≡ true
+pub both_true : (a b : Bool) → a ≡ true → b ≡ true → (a && b) ≡ true
 both_true a b h k = cc
 
-each_true : (a b : Bool) → (a && b) ≡ true → (a ≡ true) × (b ≡ true)
+pub each_true : (a b : Bool) → (a && b) ≡ true → (a ≡ true) × (b ≡ true)
 each_true true b h = (refl, h)
 each_true false b h = cc
 
-below_true : (a b : ℕ) → a < b → nat_lt a b ≡ true
+pub below_true : (a b : ℕ) → a < b → nat_lt a b ≡ true
 below_true a b h = grind (arith, nat_tests)
 
-true_below : (a b : ℕ) → nat_lt a b ≡ true → a < b
+pub true_below : (a b : ℕ) → nat_lt a b ≡ true → a < b
 true_below a b h = grind (arith, nat_tests)
 
 -- an offset is in a range's bytes exactly where it is below the size and its block is one of the range's

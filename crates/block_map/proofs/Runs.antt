@@ -9,7 +9,8 @@ use Rattle.span_cover.specs.Cover.{AreTouchedRuns, IsTouched}
 use Rattle.span_cover.proofs.Spans.{covers_at}
 use Rattle.block_map.specs.declared.maps.BlockMap.{BlockMap}
 use Rattle.block_map.specs.declared.maps.Range.{Range}
-use Rattle.block_map.specs.Maps.{HasDigestSet, HasRunsOf, IsMap, IsPowerBetween, run_of, runs_of}
+use Rattle.base_fields.specs.Numbers.{IsPowerBetween}
+use Rattle.block_map.specs.Maps.{HasDigestSet, HasRunsOf, IsMap, run_of, runs_of}
 
 -- the last block of a run of touched blocks begins below the size
 pub run_below : (spans runs : List Span) (size block k : ℕ) (d : Span) → AreTouchedRuns spans size block runs → k < length runs → ((get_or runs k d).at + (get_or runs k d).len - 1) * block < size

@@ -4,4 +4,5 @@ pub mod Index
 pub mod Laws
 pub mod Maps
 pub mod Pieces
+pub mod UnitLaws
 pub mod Units

@@ -1,27 +1,43 @@
 -- Block maps: what holds of each, and the one that a set of offsets and the bytes of an image have.
-use Rattle.std.specs.Prelude.{◌≡◌, ℕ, ◌+◌, ◌-◌, ◌*◌, ◌/◌, ◌^◌, ◌<◌, ◌≤◌, min, Bool, ◌&&◌, nat_lt, IsTrue, Some, None}
-use Rattle.std.specs.Prelude.{List, length, take, drop, map, slice_set, slice_index_or, All, AllPairs}
-use Rattle.std.specs.Int.{is_power_of_two}
+use Rattle.std.specs.Prelude.{◌≡◌, ℕ, ◌+◌, ◌-◌, ◌*◌, ◌/◌, ◌^◌, ◌<◌, ◌≤◌, min, Bool, ◌&&◌, nat_lt, Some, None}
+use Rattle.std.specs.Prelude.{List, length, take, drop, map, sum_by, slice_set, slice_index_or, All, AllPairs}
+use Rattle.std.specs.List.{flat_map}
+use Rattle.std.specs.Int.{div_ceil}
 use Rattle.sha2.specs.Sha256.{sha256}
+use Rattle.base_fields.specs.Numbers.{IsPowerBetween}
 use Rattle.base_fields.specs.declared.spans.Span.{Span}
 use Rattle.span_cover.specs.Cover.{AreTouchedRuns, covers}
 use Rattle.block_map.specs.declared.maps.BlockMap.{BlockMap}
 use Rattle.block_map.specs.declared.maps.Range.{Range}
 
--- a power of two between two numbers, which may be either
-pub record IsPowerBetween (least most n : ℕ) : Type 0 where
-  pub power : IsTrue (is_power_of_two n)
-  pub not_below : least ≤ n
-  pub not_above : n ≤ most
+-- how many ranges a map may have
+abbrev pub max_ranges : ℕ
+max_ranges = 262144
 
 -- what holds of a block map: its ranges ascend and don't meet, and the last block of each begins below the size
 pub record IsMap (m : BlockMap) : Type 0 where
   pub size : m.size ≤ 2 ^ 43
   pub block : IsPowerBetween 512 65536 m.block
-  pub few : length m.ranges ≤ 262144
+  pub few : length m.ranges ≤ max_ranges
   pub filled : All (λ r. r.first ≤ r.last) m.ranges
   pub ascend : AllPairs (λ r later. r.last < later.first) m.ranges
   pub below : All (λ r. r.last * m.block < m.size) m.ranges
+
+-- what holds of the ranges of a map: each has blocks, and begins behind the one before
+pub record AreRanges (rs : List Range) : Type 0 where
+  pub filled : All (λ r. r.first ≤ r.last) rs
+  pub ascend : AllPairs (λ r later. r.last < later.first) rs
+
+-- a range begins behind the last one of these
+abbrev pub Follows : List Range → Range → Type 0
+Follows rs r = (d : Range) → 0 < length rs → (slice_index_or rs (length rs - 1) d).last < r.first
+
+-- a map has room for this range behind its own
+pub record IsNext (m : BlockMap) (r : Range) : Type 0 where
+  pub room : length m.ranges < max_ranges
+  pub filled : r.first ≤ r.last
+  pub follows : Follows m.ranges r
+  pub below : r.last * m.block < m.size
 
 -- a range as its first block and how many it has
 abbrev pub run_of : Range → Span
@@ -33,6 +49,18 @@ runs_of m = map run_of m.ranges
 -- a range's bytes, which end where the image does
 abbrev pub range_span : BlockMap → Range → Span
 range_span m r = record { at = r.first * m.block; len = min m.size ((r.last + 1) * m.block) - r.first * m.block }
+
+-- range k of a map has these bytes
+abbrev pub IsRangeBytes : BlockMap → ℕ → Span → Type 0
+IsRangeBytes m k span = (d : Range) → span ≡ range_span m (slice_index_or m.ranges k d)
+
+-- the number of blocks of an image, of which the last one may be shorter
+abbrev pub block_count : BlockMap → ℕ
+block_count m = div_ceil m.size m.block
+
+-- the number of blocks of ranges
+abbrev pub blocks_in : List Range → ℕ
+blocks_in rs = sum_by (λ r. r.last + 1 - r.first) rs
 
 -- whether an offset is below the size and in a block of a range
 abbrev pub is_mapped : BlockMap → ℕ → Bool
@@ -53,6 +81,10 @@ pub record IsBareMapOf (spans : List Span) (size block : ℕ) (m : BlockMap) : T
 -- the bytes of an image that a span has
 abbrev pub part_of : Span → List ℕ → List ℕ
 part_of span bytes = take span.len (drop span.at bytes)
+
+-- those that spans have, one behind another
+abbrev pub parts_of : List Span → List ℕ → List ℕ
+parts_of spans bytes = flat_map (λ span. part_of span bytes) spans
 
 -- the digest of a range's bytes, in an image of these bytes
 abbrev pub digest_in : BlockMap → List ℕ → Range → List ℕ

@@ -22,6 +22,21 @@ units_by_range m unit = map (λ r. pieces unit (range_span m r)) m.ranges
 abbrev pub units_of : BlockMap → ℕ → List Span
 units_of m unit = joined (units_by_range m unit)
 
+-- what contracts see of the units of a map: the size of a unit, the image's size, and the units of
+-- each range
+pub record Cut : Type 0 where
+  pub unit : ℕ
+  pub size : ℕ
+  pub rows : List (List Span)
+
+-- a map that is cut into units of so many bytes
+abbrev pub cut_of : BlockMap → ℕ → Cut
+cut_of m unit = record { unit = unit; size = m.size; rows = units_by_range m unit }
+
+-- all units of a cut
+abbrev pub units_in : Cut → List Span
+units_in c = joined c.rows
+
 -- the number of the first unit of range r, where each range's units are given
 abbrev pub first_of : List (List Span) → ℕ → ℕ
 first_of rows r = length (joined (take r rows))

@@ -1,4 +1,5 @@
 ghost use Rattle.block_map.specs.Laws.{BelowTheCount, DigestsBegin, DigestsEnd, DigestsGoOn, OneMap, RangesAreCut, UnitsAreMapped};
+ghost use Rattle.block_map.specs.UnitLaws.{FirstUnitsJoin, MappedIsInAUnit, MapsBegin, MapsGrow, NumbersAreUnits, RangesGrow, RangesHaveUnits, RangesMakeMaps, UnitsAreApart, UnitsAreUnits, UnitsHaveNumbers, UnitsJoin};
 
 /// Nothing is done: the contract is the law of where a map's ranges end.
 ///
@@ -29,4 +30,43 @@ pub fn images_have_one_map()
 pub fn units_are_the_mapped_bytes()
     ensures all { UnitsAreMapped }
     ensures range { RangesAreCut }
+{}
+
+/// Nothing is done: the contract is the law of how a map is built range by range.
+///
+/// A map without ranges is a map; it stays one where a range is put behind its last one. Ranges alone
+/// may be put together before the size is known: then only the last one's end is looked at.
+pub fn maps_grow_by_ranges()
+    ensures begin { MapsBegin }
+    ensures grow { MapsGrow }
+    ensures ranges { RangesGrow }
+    ensures make { RangesMakeMaps }
+{}
+
+/// Nothing is done: the contract is the law that the bytes of a range's units are the range's.
+///
+/// Those of its first `j` units are its first `j * unit` bytes, or all.
+pub fn units_join_to_ranges()
+    ensures first { FirstUnitsJoin }
+    ensures all { UnitsJoin }
+{}
+
+/// Nothing is done: the contract is the law of the numbers of units.
+///
+/// A unit is its range's by its number from the range's first on, and each such number is one of the
+/// range's. Each range has units, so the numbers of the first ones rise, from 0 to the count.
+pub fn units_have_numbers()
+    ensures of_range { UnitsHaveNumbers }
+    ensures of_number { NumbersAreUnits }
+    ensures rise { RangesHaveUnits }
+{}
+
+/// Nothing is done: the contract is the law of the unit of a number.
+///
+/// It has bytes, a unit at most, which end within the image and are mapped; it ends before each later
+/// one begins; and each mapped offset is in one.
+pub fn units_by_number()
+    ensures bounds { UnitsAreUnits }
+    ensures apart { UnitsAreApart }
+    ensures found { MappedIsInAUnit }
 {}

@@ -1,9 +1,13 @@
-ghost use Rattle.std.specs.Prelude.{◌≡◌, ◌+◌, ◌^◌, ◌<◌, ◌≤◌, All, IfOk, length, map};
-ghost use Rattle.block_map.specs.Maps.{HasDigestSet, IsBareMapOf, IsMap, IsPowerBetween, run_of};
+ghost use Rattle.std.specs.Prelude.{◌≡◌, ◌+◌, ◌-◌, ◌*◌, ◌^◌, ◌<◌, ◌≤◌, All, IfOk, length, map};
+ghost use Rattle.base_fields.specs.Numbers.{IsPowerBetween};
+ghost use Rattle.block_map.specs.Maps.{AreRanges, HasDigestSet, IsBareMapOf, IsMap, IsRangeBytes, block_count, blocks_in, max_ranges, range_span, run_of};
 
 use base_fields::{List, NoMemory, Span};
 use span_cover::Cover;
 use std::alloc::Global;
+
+/// How many ranges a map may have.
+pub const MAX_RANGES: usize = 262_144;
 
 /// Which blocks of an image hold data. A block has `block` bytes, the image's last one fewer where `size` isn't a
 /// multiple of it.
@@ -42,7 +46,7 @@ impl BlockMap {
     ) -> Result<BlockMap, NoMemory>
         requires size { size ≤ 2 ^ 43 }
         requires block { IsPowerBetween 512 65536 block }
-        requires few { length cover.now ≤ 262144 }
+        requires few { length cover.now ≤ max_ranges }
         ensures map { IfOk result (λ map. IsMap map) }
         ensures exact { IfOk result (λ map. IsBareMapOf cover.now size block map) }
     {
@@ -53,6 +57,33 @@ impl BlockMap {
             block,
             ranges,
         })
+    }
+
+    /// The bytes of range `k`, which end where the image does. Takes no memory.
+    pub fn range_bytes(&self, k: usize) -> Span
+        requires map { IsMap self.now }
+        requires there { k < length self.now.ranges }
+        ensures exact { IsRangeBytes self.now k result }
+        ensures filled { 0 < result.len }
+        ensures end { result.at + result.len ≤ self.now.size }
+    {
+        bytes_of(self, &self.ranges.as_slice()[k])
+    }
+
+    /// How many blocks the image has: its size in blocks, rounded up.
+    pub fn block_count(&self) -> u64
+        requires { 0 < self.now.block }
+        ensures { result ≡ block_count self.now }
+    {
+        self.size.div_ceil(u64::from(self.block))
+    }
+
+    /// How many blocks are in the ranges.
+    pub fn mapped_count(&self) -> u64
+        requires { IsMap self.now }
+        ensures { result ≡ blocks_in self.now.ranges }
+    {
+        blocks_in(self.ranges.as_slice())
     }
 
     /// Sets the digest of range `k`. Takes no memory.
@@ -69,6 +100,24 @@ impl BlockMap {
                 ..range
             },
         );
+    }
+}
+
+/// The bytes of a range of a map, which end where the image does.
+pub(crate) fn bytes_of(map: &BlockMap, range: &Range) -> Span
+    requires map { IsMap map.now }
+    requires ordered { range.now.first ≤ range.now.last }
+    requires below { range.now.last * map.now.block < map.now.size }
+    ensures exact { result ≡ range_span map.now range.now }
+    ensures filled { 0 < result.len }
+    ensures end { result.at + result.len ≤ map.now.size }
+{
+    let block = u64::from(map.block);
+    let at = range.first * block;
+    let end = (range.last + 1) * block;
+    Span {
+        at,
+        len: map.size.min(end) - at,
     }
 }
 
@@ -89,4 +138,17 @@ fn ranges_of(alloc: Global, runs: &[Span]) -> Result<List<Range>, NoMemory>
         })?;
     }
     Ok(ranges)
+}
+
+/// How many blocks are in ranges that needn't be within an image.
+pub fn blocks_in(ranges: &[Range]) -> u64
+    requires ranges { AreRanges ranges.now }
+    requires fits { All (λ r. r.last < 2 ^ 64 - 1) ranges.now }
+    ensures { result ≡ blocks_in ranges.now }
+{
+    let mut count = 0;
+    for range in ranges {
+        count += range.last - range.first + 1;
+    }
+    count
 }

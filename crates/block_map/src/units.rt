@@ -1,11 +1,12 @@
 ghost use Rattle.std.specs.Prelude.{◌≡◌, ℕ, ◌+◌, ◌*◌, ◌^◌, ◌<◌, ◌≤◌, IfOk, IfErr, OnOk, Some, length, slice_get, slice_index_or, []};
-ghost use Rattle.block_map.specs.Maps.{IsMap, IsPowerBetween, range_span};
+ghost use Rattle.base_fields.specs.Numbers.{IsPowerBetween};
+ghost use Rattle.block_map.specs.Maps.{IsMap};
 ghost use Rattle.block_map.specs.Pieces.{piece, pieces};
 ghost use Rattle.block_map.specs.Index.{IsIndex, rows_of};
-ghost use Rattle.block_map.specs.Units.{IsRangeOf, first_of, joined, max_units, units_by_range, units_of};
+ghost use Rattle.block_map.specs.Units.{IsRangeOf, cut_of, first_of, max_units, units_by_range, units_in, units_of};
 ghost use Rattle.block_map.specs.Faults.{IsCause};
 
-use crate::maps::{BlockMap, Range};
+use crate::maps::{BlockMap, bytes_of};
 use base_fields::Span;
 use std::alloc::{AllocError, Global};
 use std::marker::Model;
@@ -16,10 +17,12 @@ const MAX_UNITS: u64 = 4_194_304;
 
 /// The units of a map: each of its ranges, as bytes, cut from its first byte into pieces of one size, of which the
 /// last is shorter where the range's bytes ask for it. They are numbered from 0 in the order of their bytes.
-/// No call on them takes memory. Contracts see the spans of each range's units.
+/// No call on them takes memory. Contracts see the size of a unit, the image's size, and the spans of
+/// each range's units.
 #[derive(Debug, Drop)]
 pub struct Units {
     unit: u64,
+    size: u64,
     count: u64,
     parts: Vec<Part>,
 }
@@ -32,17 +35,19 @@ struct Part {
 }
 
 impl Model for Units {
-    ghost use Rattle.std.specs.Prelude.{List, map};
-    ghost use Rattle.base_fields.specs.declared.spans.Span.{Span};
-    ghost use Rattle.block_map.specs.Pieces.{pieces};
+    ghost use Rattle.block_map.specs.Units.{Cut};
 
-    ghost Value = { List (List Span) };
+    ghost Value = { Cut };
 
-    ghost use Rattle.block_map.specs.Index.{IsIndex};
+    ghost use Rattle.block_map.specs.Index.{AreIndexed, rows_of};
 
-    ghost view = { λ u. map (λ p. pieces u.unit p.span) u.parts.items };
+    ghost view = { λ u. record {
+      unit = u.unit;
+      size = u.size;
+      rows = rows_of u.unit u.parts.items;
+    } };
 
-    ghost invariant = { λ u. IsIndex u.unit u.count u.parts.items };
+    ghost invariant = { λ u. AreIndexed u.unit u.size u.count u.parts.items };
 }
 
 /// Why a map has no units.
@@ -61,7 +66,7 @@ impl BlockMap {
     pub fn units(&self, alloc: Global, unit: u32) -> Result<Units, UnitFault>
         requires map { IsMap self.now }
         requires unit { IsPowerBetween 65536 4194304 unit }
-        ensures exact { IfOk result (λ units. units ≡ units_by_range self.now unit) }
+        ensures exact { IfOk result (λ units. units ≡ cut_of self.now unit) }
         ensures few { OnOk result (length (units_of self.now unit) ≤ max_units) }
         ensures err { IfErr result (λ fault. IsCause (length (units_of self.now unit)) fault) }
     {
@@ -73,8 +78,13 @@ impl BlockMap {
                 limit: MAX_UNITS,
             });
         }
-        match parts_of(alloc, self, unit) {
-            Ok(parts) => Ok(Units { unit, count, parts }),
+        match index_of(alloc, self, unit) {
+            Ok(parts) => Ok(Units {
+                unit,
+                size: self.size,
+                count,
+                parts,
+            }),
             Err(_) => Err(UnitFault::NoMemory),
         }
     }
@@ -94,10 +104,11 @@ fn count_units(map: &BlockMap, unit: u64) -> u64
 }
 
 /// The index of a map's units of `unit` bytes.
-fn parts_of(alloc: Global, map: &BlockMap, unit: u64) -> Result<Vec<Part>, AllocError>
+fn index_of(alloc: Global, map: &BlockMap, unit: u64) -> Result<Vec<Part>, AllocError>
     requires map { IsMap map.now }
     requires unit { 65536 ≤ unit }
-    ensures index { IfOk result (λ parts. IsIndex unit (length (units_of map.now unit)) parts.items) }
+    ensures index { let count = length (units_of map.now unit) in
+        IfOk result (λ parts. IsIndex unit map.now.size count parts.items) }
     ensures rows { IfOk result (λ parts. rows_of unit parts.items ≡ units_by_range map.now unit) }
 {
     let mut parts = Vec::new(alloc);
@@ -110,38 +121,25 @@ fn parts_of(alloc: Global, map: &BlockMap, unit: u64) -> Result<Vec<Part>, Alloc
     Ok(parts)
 }
 
-/// The bytes of a range of a map, which end where the image does.
-fn bytes_of(map: &BlockMap, range: &Range) -> Span
-    requires map { IsMap map.now }
-    requires ordered { range.now.first ≤ range.now.last }
-    requires below { range.now.last * map.now.block < map.now.size }
-    ensures exact { result ≡ range_span map.now range.now }
-    ensures filled { 0 < result.len }
-    ensures bounded { result.at + result.len ≤ 2 ^ 43 }
-{
-    let block = u64::from(map.block);
-    let at = range.first * block;
-    let end = (range.last + 1) * block;
-    Span {
-        at,
-        len: map.size.min(end) - at,
-    }
-}
-
 /// How many pieces of `unit` bytes a span is cut into.
 fn pieces_in(span: Span, unit: u64) -> u64
     requires { 0 < unit }
     ensures exact { result ≡ length (pieces unit span) }
     ensures few { span.len ≤ 2 ^ 43 → 65536 ≤ unit → result ≤ 2 ^ 27 }
+    ensures some { 0 < span.len → 0 < result }
 {
     span.len.div_ceil(unit)
 }
 
 /// Piece number `j` of those of `unit` bytes that a span is cut into.
 fn piece_in(span: Span, unit: u64, j: u64) -> Span
+    requires some { 0 < unit }
     requires within { j * unit < span.len }
     requires bounded { span.at + span.len ≤ 2 ^ 43 }
-    ensures { result ≡ piece unit span j }
+    ensures exact { result ≡ piece unit span j }
+    ensures filled { 0 < result.len }
+    ensures most { result.len ≤ unit }
+    ensures end { result.at + result.len ≤ span.at + span.len }
 {
     let done = j * unit;
     Span {
@@ -153,15 +151,19 @@ fn piece_in(span: Span, unit: u64, j: u64) -> Span
 impl Units {
     /// How many units there are.
     pub fn count(&self) -> u64
-        ensures { result ≡ length (joined self.now) }
+        ensures exact { result ≡ length (units_in self.now) }
+        ensures few { result ≤ max_units }
     {
         self.count
     }
 
     /// The bytes of unit `k`.
     pub fn span(&self, k: u64) -> Span
-        requires { k < length (joined self.now) }
-        ensures { slice_get (joined self.now) k ≡ Some result }
+        requires { k < length (units_in self.now) }
+        ensures exact { slice_get (units_in self.now) k ≡ Some result }
+        ensures filled { 0 < result.len }
+        ensures most { result.len ≤ self.now.unit }
+        ensures end { result.at + result.len ≤ self.now.size }
     {
         let part = self.parts[self.range_of(k) as usize];
         piece_in(part.span, self.unit, k - part.first)
@@ -169,9 +171,9 @@ impl Units {
 
     /// The number of the range that has unit `k`.
     pub fn range_of(&self, k: u64) -> u64
-        requires { k < length (joined self.now) }
-        ensures found { IsRangeOf self.now k result }
-        ensures only { (r : ℕ) → IsRangeOf self.now k r → r ≡ result }
+        requires { k < length (units_in self.now) }
+        ensures found { IsRangeOf self.now.rows k result }
+        ensures only { (r : ℕ) → IsRangeOf self.now.rows k r → r ≡ result }
     {
         let behind = self.parts.partition_point(|part| part.first <= k);
         behind as u64 - 1
@@ -179,17 +181,18 @@ impl Units {
 
     /// The number of the first unit of range `r`.
     pub fn first_of(&self, r: u64) -> u64
-        requires { r < length self.now }
-        ensures { result ≡ first_of self.now r }
+        requires { r < length self.now.rows }
+        ensures { result ≡ first_of self.now.rows r }
     {
         self.parts[r as usize].first
     }
 
     /// How many units range `r` has.
     pub fn count_of(&self, r: u64) -> u64
-        requires { r < length self.now }
-        ensures exact { result ≡ length (slice_index_or self.now r []) }
-        ensures next { first_of self.now (r + 1) ≡ first_of self.now r + result }
+        requires { r < length self.now.rows }
+        ensures exact { result ≡ length (slice_index_or self.now.rows r []) }
+        ensures some { 0 < result }
+        ensures next { first_of self.now.rows (r + 1) ≡ first_of self.now.rows r + result }
     {
         pieces_in(self.parts[r as usize].span, self.unit)
     }

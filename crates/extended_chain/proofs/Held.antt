@@ -2,8 +2,10 @@
 use Rattle.std.specs.Prelude.{◌≡◌, ℕ, zero, suc, ◌+◌, ◌*◌, ◌<◌, ◌≤◌, List, [], ◌∷◌, ◌++◌, length, slice_get, slice_index_or}
 use Rattle.std.proofs.Common.{refl, subst, arith}
 use Rattle.base_fields.specs.Parts.{AreApart, AreInOrder, HoldsPart, HoldsParts, Part}
-use Rattle.base_fields.proofs.PartBytes.{holds_each, in_order_apart}
+use Rattle.base_fields.proofs.PartBytes.{holds_back, holds_each, holds_front, in_order_apart}
+use Rattle.mbr_table.proofs.Held.{mbr_held}
 use Rattle.mbr_table.specs.Mbr.{mbr_parts}
+use Rattle.mbr_table.specs.Reading.{HoldsMbr}
 use Rattle.mbr_table.specs.declared.mbr.MbrSpec.{MbrSpec}
 use Rattle.extended_chain.proofs.Heads.{ascends_rest}
 use Rattle.extended_chain.specs.Chain.{Ascends, chain_parts, logical_of, record_part, record_parts, start_of}
@@ -52,3 +54,10 @@ chain_held specs image ascends holds k h =
     let long = length-records (start_of specs) specs in
     let part : HoldsPart image (slice_index_or (chain_parts specs) k d) = holds_each image (chain_parts specs) (chain_apart specs ascends) holds k d (omega arith) in
     subst (HoldsPart image) (record-at (start_of specs) specs k d h) part
+
+-- an image that has the master boot record and the records behind it has the bytes of both
+pub tables_held : (spec : MbrSpec) (specs : List LogicalSpec) (image : ℕ → ℕ) → Ascends specs → (0 < length specs → 0 < start_of specs) → HoldsParts image (mbr_parts spec ++ chain_parts specs) → HoldsMbr image spec × HoldsChain image specs
+tables_held spec specs image ascends behind holds = (
+  mbr_held spec image (holds_front image (mbr_parts spec) (chain_parts specs) holds),
+  chain_held specs image ascends (holds_back image (mbr_parts spec) (chain_parts specs) (tables_apart spec specs ascends behind) holds),
+)

@@ -1,6 +1,6 @@
 -- The proof that a table reads as what it was made of.
 use Rattle.std.specs.Prelude.{◌≡◌, ◌≢◌, ℕ, ◌+◌, ◌-◌, ◌*◌, ◌^◌, ◌<◌, ◌≤◌, ◌⊎◌, List, Bool, true, false, if◌then◌else◌}
-use Rattle.std.proofs.Common.{refl, ◌∙◌, sym, ap, subst, arith, inl, inr}
+use Rattle.std.proofs.Common.{refl, ◌∙◌, sym, ap, arith, inl, inr}
 use Rattle.gpt_table.specs.Gpt.{GptFits, HasRoom, HasSectorSize, back_entries_at, back_header, entry_sectors, front_header, header_byte, header_fields, header_sum, last_sector, slot_of}
 use Rattle.gpt_table.specs.Reading.{GptReadsBack, HoldsGpt, ReadsBackup, ReadsHeader}
 use Rattle.gpt_table.specs.declared.table.GptSpec.{GptSpec}

@@ -21,12 +21,15 @@ back_entries_part spec =
 
 -- the sector of the backup header
 abbrev pub back_part : GptSpec → Part
-back_part spec = record { at = last_sector spec * spec.sector; len = spec.sector; byte = back_byte spec }
+back_part spec =
+    record { at = last_sector spec * spec.sector; len = spec.sector; byte = back_byte spec }
 
 -- the front header and its entries, and where there is a backup its entries and its header
 abbrev pub gpt_parts : GptSpec → List Part
 gpt_parts spec =
-    front_part spec ∷ entries_part spec ∷ (if spec.backup then back_entries_part spec ∷ back_part spec ∷ [] else [])
+    front_part spec
+    ∷ entries_part spec
+    ∷ (if spec.backup then back_entries_part spec ∷ back_part spec ∷ [] else [])
 
 -- the byte of the table at an offset of the image, and None where the table has none
 unfoldable pub gpt_byte : GptSpec → ℕ → Option ℕ

@@ -1,5 +1,5 @@
--- What the bytes of an image read as, an image being the byte at each offset, and beside it its length in bytes: past
--- that nothing is read. Nothing here knows how a table is written.
+-- What the bytes of an image read as, an image being the byte at each offset, and beside it its
+-- length in bytes, inside which all lies that is read. Nothing here knows how a table is written.
 use Rattle.std.specs.Prelude.{◌≡◌, ◌≢◌, ℕ, zero, suc, ◌+◌, ◌*◌, ◌<◌, ◌≤◌, List, [], ◌∷◌, ◌++◌, true, codes, replicate}
 use Rattle.base_fields.specs.Crc.{crc32_of}
 use Rattle.base_fields.specs.Fields.{number_at}
@@ -42,8 +42,8 @@ header_at image o = record {
   entries_sum = number_at image (o + 88) 4;
 }
 
--- a right header stands where it says, and says this; these are the 128 slots of its entries, by their numbers from 0.
--- Z is the sector size
+-- a right header stands where it says, and says this; these are the 128 slots of its entries, by
+-- their numbers from 0. Its 92 bytes and those of the entries are there. Z is the sector size
 pub record ReadsHeader (image : ℕ → ℕ) (len z : ℕ) (header : GptHeader) (slot : ℕ → GptEntry) : Type 0 where
   pub inside : header.own * z + 92 ≤ len
   pub signature : bytes_at image (header.own * z) 8 ≡ codes "EFI PART"
@@ -82,9 +82,10 @@ pub record HoldsGpt (image : ℕ → ℕ) (spec : GptSpec) : Type 0 where
   pub back_entries : spec.backup ≡ true → (o : ℕ) → o < 16384 → image (back_entries_at spec * spec.sector + o) ≡ entries_byte spec.entries o
   pub back : spec.backup ≡ true → (o : ℕ) → o < spec.sector → image (last_sector spec * spec.sector + o) ≡ back_byte spec o
 
--- each image that is at least as long as the disk and has the bytes of a table reads as what it was made of, with its
--- backup where it has one. An entry's type may be nil: it reads back like any other
+-- each image that is at least as long as the disk and has the bytes of a table reads as what it was
+-- made of, with its backup where it has one. An entry of the nil type reads back like any other
 abbrev pub GptReadsBack : Type 0
 GptReadsBack =
-    (spec : GptSpec) (image : ℕ → ℕ) (len : ℕ) → GptFits spec → HasRoom spec → spec.sectors * spec.sector ≤ len
-    → HoldsGpt image spec → ReadsGpt image len spec.sector (front_header spec) (back_header spec) (slot_of spec.entries)
+    (spec : GptSpec) (image : ℕ → ℕ) (len : ℕ) → GptFits spec → HasRoom spec
+    → spec.sectors * spec.sector ≤ len → HoldsGpt image spec
+    → ReadsGpt image len spec.sector (front_header spec) (back_header spec) (slot_of spec.entries)

@@ -1,4 +1,4 @@
-ghost use Rattle.std.specs.Prelude.{◌≡◌, ℕ, ◌+◌, ◌<◌, ◌^◌, length, IsErrOf};
+ghost use Rattle.std.specs.Prelude.{◌≡◌, ℕ, ◌+◌, ◌<◌, ◌≤◌, ◌^◌, length, IsErrOf};
 ghost use Rattle.outside.specs.Counts.{NoneFell, Rose};
 ghost use Rattle.outside.specs.Reading.{span_of};
 ghost use Rattle.region_pool.specs.Buffers.{free_of};
@@ -37,6 +37,7 @@ pub fn digest_of<F: Files>(
     ensures missing { IsErrOf result DigestFault.Missing → Rose (F.counts files.old).absences (F.counts files.new).absences }
     ensures ended { (at : ℕ) → IsErrOf result (DigestFault.SourceShort at) → Rose (F.counts files.old).ends (F.counts files.new).ends }
     ensures needed { (at : ℕ) → IsErrOf result (DigestFault.SourceShort at) → at < span.at + span.len }
+    ensures not_before { (at : ℕ) → IsErrOf result (DigestFault.SourceShort at) → span.at ≤ at }
     ensures same_files { F.file files.new ≡ F.file files.old }
     ensures unasked { span.len ≡ 0 → files.new ≡ files.old }
     ensures exact { F.told → Digests (span_of (F.file files.old name.now) span.at span.len) result }
@@ -64,6 +65,7 @@ fn digest_through<F: Files>(
     ensures missing { IsErrOf result DigestFault.Missing → Rose (F.counts files.old).absences (F.counts files.new).absences }
     ensures ended { (at : ℕ) → IsErrOf result (DigestFault.SourceShort at) → Rose (F.counts files.old).ends (F.counts files.new).ends }
     ensures needed { (at : ℕ) → IsErrOf result (DigestFault.SourceShort at) → at < span.at + span.len }
+    ensures not_before { (at : ℕ) → IsErrOf result (DigestFault.SourceShort at) → span.at ≤ at }
     ensures same_files { F.file files.new ≡ F.file files.old }
     ensures unasked { span.len ≡ 0 → files.new ≡ files.old }
     ensures exact { F.told → Digests (span_of (F.file files.old name.now) span.at span.len) result }
@@ -94,6 +96,7 @@ fn add_piece<F: Files>(
     ensures missing { IsErrOf result DigestFault.Missing → Rose (F.counts files.old).absences (F.counts files.new).absences }
     ensures ended { (at : ℕ) → IsErrOf result (DigestFault.SourceShort at) → Rose (F.counts files.old).ends (F.counts files.new).ends }
     ensures needed { (place : ℕ) → IsErrOf result (DigestFault.SourceShort place) → place < at + length buf.old }
+    ensures not_before { (place : ℕ) → IsErrOf result (DigestFault.SourceShort place) → at ≤ place }
     ensures same_files { F.file files.new ≡ F.file files.old }
     ensures added { F.told → Adds (span_of (F.file files.old name.now) at (length buf.old)) hasher.old hasher.new result }
 {

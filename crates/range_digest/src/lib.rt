@@ -4,6 +4,3 @@
 mod digests;
 
 pub use digests::{DigestFault, digest_of};
-
-#[cfg(test)]
-mod tests;

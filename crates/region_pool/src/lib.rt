@@ -6,6 +6,3 @@ mod memory;
 mod pool;
 
 pub use pool::{Lease, Pool};
-
-#[cfg(test)]
-mod tests;

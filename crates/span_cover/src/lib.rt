@@ -6,6 +6,3 @@ mod cover;
 mod places;
 
 pub use cover::Cover;
-
-#[cfg(test)]
-mod tests;

@@ -1,6 +1,6 @@
 -- The chunks of a file as a list, and in their order.
 use Rattle.std.proofs.Common.{◌≡◌, ℕ, zero, suc, ◌+◌, ◌<◌, List, [], ◌∷◌, length, take, slice_index_or, Result, Ok, Err, refl, ap, subst, sym, add-zero, add-one, arith}
-use Rattle.sparse_reader.specs.Bind.{◌>>=◌}
+use Rattle.base_fields.specs.Results.{◌>>=◌}
 use Rattle.sparse_reader.specs.Chunks.{AreChunks, behind, chunk_at, chunks_from, cursor_after}
 use Rattle.sparse_reader.specs.Laws.{ChunksAreFound, OneListOfChunks}
 use Rattle.sparse_reader.specs.declared.chunk.Chunk.{Chunk}

@@ -2,7 +2,7 @@
 use Rattle.std.proofs.Common.{◌≡◌, ℕ, suc, ◌+◌, ◌-◌, ◌<◌, ◌≤◌, List, [], ◌∷◌, cond, Result, Ok, Err, refl, ap, ◌∙◌, add-zero, arith}
 use Rattle.std.proofs.lemmas.List.Sums.{sum_by-cons}
 use Rattle.sparse_reader.specs.Answers.{Refuses}
-use Rattle.sparse_reader.specs.Bind.{◌>>=◌}
+use Rattle.base_fields.specs.Results.{◌>>=◌}
 use Rattle.sparse_reader.specs.Chunks.{behind, chunk_at, chunks_from}
 use Rattle.sparse_reader.specs.Tally.{blocks_of, count_of, is_kind, one_if, with_chunk}
 use Rattle.sparse_reader.specs.declared.chunk.Chunk.{Chunk}

@@ -3,7 +3,7 @@ use Rattle.std.proofs.Common.{◌≡◌, ℕ, ◌<◌, ◌≤◌, ◌==◌, List
 use Rattle.std.proofs.lemmas.Bool.Decides.{nat_tests}
 use Rattle.std.proofs.lemmas.Bool.{eqb-true, eq-eqb}
 use Rattle.std.proofs.lemmas.List.{length-take-le}
-use Rattle.sparse_reader.specs.Bind.{◌>>=◌}
+use Rattle.base_fields.specs.Results.{◌>>=◌}
 use Rattle.sparse_reader.specs.Chunks.{AreChunks, chunks_from, cursor_after, start}
 use Rattle.sparse_reader.specs.Header.{header_of}
 use Rattle.sparse_reader.specs.Laws.{ChunksComeInOrder, ViewsAreOfChunks}

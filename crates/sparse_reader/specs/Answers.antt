@@ -2,7 +2,7 @@
 use Rattle.std.specs.Prelude.{◌≡◌, ◌≢◌, ℕ, ◌+◌, ◌-◌, ◌*◌, ◌^◌, ◌<◌, ◌⊎◌, IsTrue, List, length, Option, None, Some, Result, Ok, Err}
 use Rattle.outside.specs.Counts.{Counts, Rose}
 use Rattle.outside.specs.Files.{Tree, IsThere, bytes_of}
-use Rattle.sparse_reader.specs.Bind.{or_else}
+use Rattle.base_fields.specs.Results.{or_else}
 use Rattle.sparse_reader.specs.Chunks.{behind}
 use Rattle.sparse_reader.specs.Header.{IsField, is_block}
 use Rattle.sparse_reader.specs.declared.chunk.Chunk.{Chunk}

@@ -1,7 +1,7 @@
 -- The chunks of a sparse file: each a header of 12 bytes and its data, end to end behind the file's header.
 use Rattle.std.specs.Prelude.{◌≡◌, ℕ, zero, suc, ◌+◌, ◌-◌, ◌*◌, ◌^◌, ◌≤◌, ◌==◌, Bool, true, ◌&&◌, List, [], ◌∷◌, Option, None, Some, Result, Ok, if◌then◌else◌}
 use Rattle.byteorder.specs.Endian.{little_number}
-use Rattle.sparse_reader.specs.Bind.{◌>>=◌, or_else}
+use Rattle.base_fields.specs.Results.{◌>>=◌, or_else}
 use Rattle.sparse_reader.specs.Header.{number_in, part_of}
 use Rattle.sparse_reader.specs.declared.chunk.Chunk.{Chunk}
 use Rattle.sparse_reader.specs.declared.chunk.ChunkKind.{ChunkKind}

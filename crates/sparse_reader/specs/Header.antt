@@ -1,7 +1,7 @@
 -- The header of a sparse file: 28 bytes, the numbers in them with the lowest byte first.
 use Rattle.std.specs.Prelude.{ℕ, ◌+◌, ◌%◌, ◌==◌, nat_le, nat_lt, Bool, ◌&&◌, List, [], ◌∷◌, length, take, drop, Contains, Option, None, Some, Result, Ok, Err, if◌then◌else◌}
 use Rattle.byteorder.specs.Endian.{little_number}
-use Rattle.sparse_reader.specs.Bind.{◌>>=◌}
+use Rattle.base_fields.specs.Results.{◌>>=◌}
 use Rattle.sparse_reader.specs.declared.fault.SparseFault.{SparseFault}
 use Rattle.sparse_reader.specs.declared.fault.SparseFault.TheVariants.{BadMagic, Short}
 use Rattle.sparse_reader.specs.declared.header.Header.{Header}

@@ -1,6 +1,5 @@
 -- definitions that contracts cite
 pub mod Answers
-pub mod Bind
 pub mod Chunks
 pub mod Header
 pub mod Laws

@@ -1,6 +1,6 @@
 -- A sparse file as a whole.
 use Rattle.std.specs.Prelude.{◌≡◌, ℕ, nat_lt, List, length, take, Option, None, Some, Result, Ok, if◌then◌else◌}
-use Rattle.sparse_reader.specs.Bind.{◌>>=◌, or_else}
+use Rattle.base_fields.specs.Results.{◌>>=◌, or_else}
 use Rattle.sparse_reader.specs.Chunks.{AreChunks, chunk_at, start}
 use Rattle.sparse_reader.specs.Header.{header_of, number_in}
 use Rattle.sparse_reader.specs.Tally.{blocks_of, closed, tally_in}

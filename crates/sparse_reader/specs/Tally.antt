@@ -1,6 +1,6 @@
 -- The counts of the chunks of a sparse file.
 use Rattle.std.specs.Prelude.{◌≡◌, ℕ, ◌+◌, ◌-◌, ◌*◌, ◌^◌, ◌≤◌, ◌==◌, Bool, true, false, List, count_by, sum_by, Result, Ok, Err, if◌then◌else◌}
-use Rattle.sparse_reader.specs.Bind.{◌>>=◌}
+use Rattle.base_fields.specs.Results.{◌>>=◌}
 use Rattle.sparse_reader.specs.Chunks.{chunks_from, start}
 use Rattle.sparse_reader.specs.declared.chunk.Chunk.{Chunk}
 use Rattle.sparse_reader.specs.declared.chunk.ChunkKind.{ChunkKind}

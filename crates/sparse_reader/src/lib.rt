@@ -16,6 +16,3 @@ pub use fault::SparseFault;
 pub use laws::{chunks_are_found, chunks_come_in_order, one_list_of_chunks, views_are_of_chunks};
 pub use next::next_chunk;
 pub use view::{SparseView, read_sparse};
-
-#[cfg(test)]
-mod tests;

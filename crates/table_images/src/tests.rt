@@ -1,7 +1,7 @@
 ghost use Rattle.std.specs.Prelude.{◌≤◌};
 
 use base_fields::{List, get_u64};
-use gpt_table::{Flags, GptEntry, GptSpec, gpt};
+use gpt_table::{Flags, GptEntry, GptSpec, gpt, name_units};
 use mbr_table::{MbrEntry, MbrSpec, mbr_bytes, protective_entry};
 use std::alloc::{AllocError, Global};
 use std::fs;
@@ -14,8 +14,6 @@ const LINUX: [u8; 16] = [
 
 /// The partition `p` of these sectors.
 fn partition(first: u64, last: u64) -> GptEntry {
-    let mut name = [0; 36];
-    name[0] = u16::from(b'p');
     let flags = Flags {
         bootable: true,
         read_only: false,
@@ -28,7 +26,7 @@ fn partition(first: u64, last: u64) -> GptEntry {
         first,
         last,
         attrs: flags.attributes(),
-        name,
+        name: name_units(b"p"),
     }
 }
 

@@ -11,7 +11,7 @@ use Rattle.block_map.proofs.units.count_units.Goals as goal
 pub overflow_add-count : goal.overflow_add-count
 overflow_add-count c =
     let many : length c.as_slice-range-items.result.now ≡ length c.args.map.now.ranges = ap (λ (l : List Range). length l) c.as_slice-range-items.ensures in
-    omega (arith, c.loop-range.invariant.few, c.pieces_in-count.ensures.few, c.bytes_of.ensures.bounded, c.requires.map.few, c.requires.unit)
+    omega (arith, c.loop-range.invariant.few, c.pieces_in-count.ensures.few, c.bytes_of.ensures.end, c.requires.map.size, c.requires.map.few, c.requires.unit)
 
 pub loop-range-preserved : goal.loop-range-preserved
 loop-range-preserved c = record {
@@ -20,7 +20,7 @@ loop-range-preserved c = record {
       ∙ ap (λ (n : ℕ). length (joined (map (λ (r : Range). pieces c.args.unit (range_span c.args.map.now r)) (take c.loop-range.range-index c.as_slice-range-items.result.now))) + n)
       (c.pieces_in-count.ensures.exact ∙ ap (λ (s : Span). length (pieces c.args.unit s)) c.bytes_of.ensures.exact)
       ∙ sym (rows_more (λ (r : Range). pieces c.args.unit (range_span c.args.map.now r)) c.as_slice-range-items.result.now c.loop-range.range-index _ c.loop-range-test.true);
-  few = omega (arith, c.loop-range.invariant.few, c.pieces_in-count.ensures.few, c.bytes_of.ensures.bounded, c.requires.unit);
+  few = omega (arith, c.loop-range.invariant.few, c.pieces_in-count.ensures.few, c.bytes_of.ensures.end, c.requires.map.size, c.requires.unit);
 }
 
 pub returns : goal.returns
