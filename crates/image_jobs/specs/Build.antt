@@ -1,5 +1,5 @@
 -- What a build makes over files that are told, in the order in which it looks for its refusals.
-use Rattle.std.specs.Prelude.{ℕ, ◌^◌, nat_le, List, [], length, Option, Some, None, Result, Ok, Err}
+use Rattle.std.specs.Prelude.{ℕ, ◌^◌, nat_le, List, [], length, Option, Some, None, Result, Ok}
 use Rattle.base_fields.specs.Results.{◌>>=◌, or_else, refused_by, when}
 use Rattle.base_fields.specs.declared.names.Pair.{Pair}
 use Rattle.outside.specs.Files.{Tree}
