@@ -6,8 +6,6 @@ mod bench_tests;
 #[cfg(test)]
 mod files_tests;
 #[cfg(test)]
-mod memory_tests;
-#[cfg(test)]
 mod real_tests;
 #[cfg(test)]
 mod script;

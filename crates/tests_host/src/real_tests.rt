@@ -1,6 +1,5 @@
 use bench::{Bench, Dev};
 use bench_devices::HostBench;
-use bench_trial::{close_gate, mark, put, put_since};
 use host_files::{HostFiles, HostPrinter};
 use outside::{FileErr, Files, FillFault, Printer, fill};
 use std::fs;
@@ -53,31 +52,6 @@ fn host_devices_are_real(rt: HostRuntime) -> Result<(), Fail> {
     );
     fs::remove_file(&rt, "bench_target.bin")?;
     fs::remove_file(&rt, "bench_journal.bin")?;
-    Ok(())
-}
-
-#[test]
-fn the_forms_of_a_journal_run(rt: HostRuntime) -> Result<(), Fail> {
-    fs::write(&rt, "forms_target.bin", "abcd")?;
-    fs::write(&rt, "forms_journal.bin", "0123456789")?;
-    let mut bench = HostBench::new(&rt);
-    assert!(rt; bench.attach(Dev::Target, "forms_target.bin").is_ok());
-    assert!(rt; bench.attach(Dev::Journal, "forms_journal.bin").is_ok());
-    assert!(rt; put_since(&mut bench, 0, b"xy", 1).is_ok());
-    assert!(rt; put(&mut bench, 2, b"z", 2).is_ok());
-    assert!(rt; close_gate(&mut bench).is_ok());
-    assert!(rt; mark(&mut bench, &[]).is_ok());
-    assert!(rt; mark(&mut bench, &[0]).is_err());
-    assert_eq!(rt;
-        fs::read(&rt, "forms_target.bin")?.as_slice(),
-        b"xyzd".as_slice()
-    );
-    assert_eq!(rt;
-        fs::read(&rt, "forms_journal.bin")?.as_slice(),
-        b"0DD34567\09".as_slice()
-    );
-    fs::remove_file(&rt, "forms_target.bin")?;
-    fs::remove_file(&rt, "forms_journal.bin")?;
     Ok(())
 }
 
