@@ -1,4 +1,4 @@
 -- lemmas
 mod LineLemmas
 mod ReadLemmas
-mod WriteLemmas
+pub mod WriteLemmas

@@ -30,7 +30,7 @@ span_more (Some bytes) off done n xs ys front back =
     grind (arith, nat_tests, common_steps)
 
 -- the value behind an answer of which a fact holds
-ok_and : {T E : Type 0} (r : Result T E) (P : T → Type 0) → IsOkAnd r P → (x : T) × ((r ≡ Ok x) × P x)
+pub ok_and : {T E : Type 0} (r : Result T E) (P : T → Type 0) → IsOkAnd r P → (x : T) × ((r ≡ Ok x) × P x)
 ok_and (Ok x) P h = (x, (refl, h))
 ok_and (Err e) P h = absurd h
 

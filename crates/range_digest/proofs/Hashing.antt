@@ -2,6 +2,7 @@
 use Rattle.std.proofs.Common.{◌≡◌, ℕ, ◌+◌, List, ◌++◌, drop, Option, Some, None, Result, Ok, Err, IsOkAnd, refl, sym, subst, arith}
 use Rattle.sha2.specs.declared.Sha256.{Sha256}
 use Rattle.sha2.specs.Hashers.{Holds256}
+use Rattle.outside.proofs.WriteLemmas.{ok_and, span_more}
 use Rattle.outside.specs.Reading.{span_of}
 use Rattle.range_digest.specs.Digests.{Adds}
 use Rattle.std.proofs.Math.Seq.{take-add}
@@ -9,22 +10,9 @@ use Rattle.std.proofs.lemmas.Bool.Decides.{nat_tests}
 use Rattle.std.proofs.lemmas.Grind.{common_steps}
 use Rattle.std.proofs.lemmas.List.{drop-drop}
 
--- a run that is there, and the run behind it
-span_more : (at : Option (List ℕ)) (off done n : ℕ) (xs ys : List ℕ) → span_of at off done ≡ Ok xs → span_of at (off + done) n ≡ Ok ys → span_of at off (done + n) ≡ Ok (xs ++ ys)
-span_more None off done n xs ys front back = grind (arith, nat_tests, common_steps)
-span_more (Some bytes) off done n xs ys front back =
-    let cut = take-add done n (drop off bytes) in
-    let behind = drop-drop done off bytes in
-    grind (arith, nat_tests, common_steps)
-
--- the value behind an answer of which a fact holds
-ok_and : {T E : Type 0} (r : Result T E) (P : T → Type 0) → IsOkAnd r P → (x : T) × ((r ≡ Ok x) × P x)
-ok_and (Ok x) P h = (x, (refl, h))
-ok_and (Err e) P h = absurd h
-
 -- what is hashed, and the piece that is added, are one run
 pub hashed_more : (at : Option (List ℕ)) (off done n : ℕ) (old new : Sha256) → IsOkAnd (span_of at off done) (Holds256 old) → Adds (span_of at (off + done) n) old new (Ok tt) → IsOkAnd (span_of at off (done + n)) (Holds256 new)
 hashed_more at off done n old new front back =
     let (xs, (first, before)) = ok_and _ _ front in
     let (ys, (second, after)) = ok_and _ _ back in
-    subst (λ r. IsOkAnd r (Holds256 new)) (sym (span_more at off done n xs ys first second)) (after xs before)
+    subst (λ r. IsOkAnd r (Holds256 new)) (sym (span_more at off done n xs ys first second).1) (after xs before)
