@@ -1,10 +1,9 @@
 -- The numbers of what the keys and a place give fit their fields.
-use Rattle.std.specs.Prelude.{◌≡◌, ℕ, zero, suc, ◌+◌, ◌*◌, ◌/◌, ◌^◌, ◌<◌, ◌≤◌, List, [], ◌∷◌, ◌++◌, Bool, true, false, ◌&&◌, ◌==◌, Option, None, Some, IfSome, IsTrue, codes, length, take, slice_index, unwrap_or}
+use Rattle.std.specs.Prelude.{◌≡◌, ℕ, zero, suc, ◌+◌, ◌*◌, ◌/◌, ◌^◌, ◌<◌, ◌≤◌, List, [], ◌∷◌, ◌++◌, Bool, true, false, ◌&&◌, ◌==◌, Option, None, Some, IfSome, codes, length, slice_index, unwrap_or}
 use Rattle.std.specs.Int.{to_be_bytes, w32}
 use Rattle.std.specs.List.{list_all}
 use Rattle.std.proofs.Common.{arith, lit<, lit≤, length-append, refl, ◌∙◌}
 use Rattle.std.proofs.Math.Nat.{div-le_self}
-use Rattle.std.proofs.lemmas.Grind.{common_steps}
 use Rattle.std.proofs.lemmas.Bool.{and_parts}
 use Rattle.std.proofs.lemmas.Bool.Decides.{nat_tests}
 use Rattle.std.proofs.lemmas.List.{length-set, length-take-le}
@@ -43,10 +42,15 @@ typed_is_used kind first count some =
     rw typed refl
 
 -- the entry of a partition isn't empty, wherever it stands
-pub mbr_entry_used : (part : PartitionSection) (at size : ℕ) → IsPartitionWithin part → is_empty (mbr_entry_of part at size) ≡ false
-mbr_entry_used part at size within = typed_is_used (mbr_kind part) (at / 512 == 0) (size / 512 == 0) (mbr_kind_between part within).0
+pub mbr_entry_used :
+    (part : PartitionSection) (at size : ℕ) → IsPartitionWithin part
+    → is_empty (mbr_entry_of part at size) ≡ false
+mbr_entry_used part at size within =
+    typed_is_used (mbr_kind part) (at / 512 == 0) (size / 512 == 0) (mbr_kind_between part within).0
 
-pub mbr_entry_fits : (part : PartitionSection) (at size : ℕ) → IsPartitionWithin part → at / 512 < 2 ^ 32 → size / 512 < 2 ^ 32 → EntryFits (mbr_entry_of part at size)
+pub mbr_entry_fits :
+    (part : PartitionSection) (at size : ℕ) → IsPartitionWithin part → at / 512 < 2 ^ 32 → size / 512 < 2 ^ 32
+    → EntryFits (mbr_entry_of part at size)
 mbr_entry_fits part at size within first count = record {
   kind = mbr_kind_fits part within;
   first = first;
@@ -57,10 +61,13 @@ mbr_entry_fits part at size within first count = record {
 pub counted_has_last : (start : ℕ) (e : MbrEntry) → 0 < e.count → HasLast start e
 counted_has_last start e some used = omega arith
 
-pub mbr_entry_has_last : (start : ℕ) (part : PartitionSection) (at size : ℕ) → 512 ≤ size → HasLast start (mbr_entry_of part at size)
+pub mbr_entry_has_last :
+    (start : ℕ) (part : PartitionSection) (at size : ℕ) → 512 ≤ size → HasLast start (mbr_entry_of part at size)
 mbr_entry_has_last start part at size some used = omega arith
 
-pub logical_spec_fits : (part : PartitionSection) (head at size : ℕ) → IsPartitionWithin part → head / 512 < 2 ^ 32 → at / 512 < 2 ^ 32 → size / 512 < 2 ^ 32 → LogicalFits (logical_spec_of part head at size)
+pub logical_spec_fits :
+    (part : PartitionSection) (head at size : ℕ) → IsPartitionWithin part → head / 512 < 2 ^ 32
+    → at / 512 < 2 ^ 32 → size / 512 < 2 ^ 32 → LogicalFits (logical_spec_of part head at size)
 logical_spec_fits part head at size within before first count =
     record { kind = mbr_kind_fits part within; head = before; first = first; count = count }
 
@@ -87,21 +94,29 @@ length-derived_id name =
     let long = sha1_long (namespace_url ++ name) in
     length-set _ 6 _ ∙ length-set _ 8 _ ∙ length-take-le 16 (sha1 (namespace_url ++ name)) (omega arith)
 
-id_long : (key : Option (List ℕ)) (name : List ℕ) → IfSome key (λ id. length id ≡ 16) → length (unwrap_or key (derived_id name)) ≡ 16
+id_long :
+    (key : Option (List ℕ)) (name : List ℕ) → IfSome key (λ id. length id ≡ 16)
+    → length (unwrap_or key (derived_id name)) ≡ 16
 id_long None name h = length-derived_id name
 id_long (Some id) name h = h
 
-pub length-own_id : (image : List ℕ) (part : PartitionSection) → IfSome part.partition_uuid (λ id. length id ≡ 16) → length (own_id image part) ≡ 16
+pub length-own_id :
+    (image : List ℕ) (part : PartitionSection) → IfSome part.partition_uuid (λ id. length id ≡ 16)
+    → length (own_id image part) ≡ 16
 length-own_id image part h = id_long part.partition_uuid (codes "genflash:" ++ image ++ codes "#" ++ part.name) h
 
-pub length-disk_id : (image : List ℕ) (hd : HdKeys) → IfSome hd.disk_uuid (λ id. length id ≡ 16) → length (disk_id image hd) ≡ 16
+pub length-disk_id :
+    (image : List ℕ) (hd : HdKeys) → IfSome hd.disk_uuid (λ id. length id ≡ 16) → length (disk_id image hd) ≡ 16
 length-disk_id image hd h = id_long hd.disk_uuid (codes "genflash:" ++ image) h
 
 -- ---- GUID partition tables
 
 -- both tests of a name
-name_tests : (part : PartitionSection) → IsPartitionWithin part → (is_between 1 36 (length part.name) ≡ true) × (list_all (is_between 32 126) part.name ≡ true)
-name_tests part within = and_parts (is_between 1 36 (length part.name)) (list_all (is_between 32 126) part.name) within.name
+name_tests :
+    (part : PartitionSection) → IsPartitionWithin part
+    → (is_between 1 36 (length part.name) ≡ true) × (list_all (is_between 32 126) part.name ≡ true)
+name_tests part within =
+    and_parts (is_between 1 36 (length part.name)) (list_all (is_between 32 126) part.name) within.name
 
 pub name_is_short : (part : PartitionSection) → IsPartitionWithin part → length part.name ≤ 36
 name_is_short part within = (between_gives 1 36 (length part.name) (name_tests part within).0).1
@@ -109,7 +124,8 @@ name_is_short part within = (between_gives 1 36 (length part.name) (name_tests p
 small_units : (text : List ℕ) → list_all (is_between 32 126) text ≡ true → (i : ℕ) → slice_index text i < 2 ^ 16
 small_units [] all i = lit< tt
 small_units (b ∷ text) all zero =
-    let small = (between_gives 32 126 b (and_parts (is_between 32 126 b) (list_all (is_between 32 126) text) all).0).1 in omega arith
+    let tests = and_parts (is_between 32 126 b) (list_all (is_between 32 126) text) all in
+    let small = (between_gives 32 126 b tests.0).1 in omega arith
 small_units (b ∷ text) all (suc i) =
     small_units text (and_parts (is_between 32 126 b) (list_all (is_between 32 126) text) all).1 i
 
@@ -125,12 +141,16 @@ attributes_fit flags =
     let n = bit_fits flags.no_automount 63 in
     omega arith
 
-pub gpt_entry_fits : (image : List ℕ) (part : PartitionSection) (at size z : ℕ) → IsPartitionWithin part → IfSome part.partition_uuid (λ id. length id ≡ 16) → length part.partition_type_uuid ≡ 16 → at + size ≤ 2 ^ 44 → gpt.EntryFits (gpt_entry_of image part at size z)
+pub gpt_entry_fits :
+    (image : List ℕ) (part : PartitionSection) (at size z : ℕ) → IsPartitionWithin part
+    → IfSome part.partition_uuid (λ id. length id ≡ 16) → length part.partition_type_uuid ≡ 16
+    → at + size ≤ 2 ^ 44 → gpt.EntryFits (gpt_entry_of image part at size z)
 gpt_entry_fits image part at size z within own kind end =
     let first = div-le_self at z in
     let last = div-le_self (at + size) z in
+    let name = length-name_units part.name (name_is_short part within) in
     record {
-      lengths = record { kind = kind; own = length-own_id image part own; name = length-name_units part.name (name_is_short part within) };
+      lengths = record { kind = kind; own = length-own_id image part own; name = name };
       first = omega arith;
       last = omega arith;
       attrs = attributes_fit (flags_of part);
