@@ -1,0 +1,4 @@
+-- definitions that contracts cite
+pub mod IsLayout
+pub mod Layout
+pub mod ReadsBack
