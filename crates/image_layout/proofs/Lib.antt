@@ -1,1 +1,3 @@
 -- lemmas
+pub mod Bytes
+pub mod ReadsBack
