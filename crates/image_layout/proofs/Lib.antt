@@ -1,3 +1,6 @@
 -- lemmas
+mod Between
+mod Coverable
+mod Gaining
 pub mod Bytes
 pub mod ReadsBack

@@ -1,6 +1,7 @@
 //! Where everything of an image stands: its partitions, its tables, and which byte each offset has.
 #![tactic(auto)]
 
+mod covering;
 mod laws;
 mod layout;
 
