@@ -71,8 +71,11 @@ by_whole false at size len o n short =
     (λ h. lt-ltb o (at + size) (let below : o < at + len = ltb-true o (at + len) h in omega arith))
 
 -- what a partition covers is what its holes leave of its file, or of all of it
-pub shown_left : (p : Placed) (o : ℕ) → p.len ≤ p.size → is_left p.at (reach_of p) p.holes o ≡ is_shown p o
+shown_left : (p : Placed) (o : ℕ) → p.len ≤ p.size → is_left p.at (reach_of p) p.holes o ≡ is_shown p o
 shown_left p o short = sym (by_whole p.whole p.at p.size p.len o (not (covers p.holes (o - p.at))) short)
+
+pub gains_part : (p : Placed) (old new : List Span) → p.len ≤ p.size → Gains old (is_left p.at (reach_of p) p.holes) new → Gains old (is_shown p) new
+gains_part p old new short gained o = gained o ∙ ap (λ (b : Bool). covers old o || b) (shown_left p o short)
 
 -- ---- tables
 

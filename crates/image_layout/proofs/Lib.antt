@@ -2,5 +2,6 @@
 mod Between
 mod Coverable
 mod Gaining
+mod Rows
 pub mod Bytes
 pub mod ReadsBack

@@ -42,6 +42,17 @@ impl Layout {
     }
 }
 
+impl Placed {
+    ghost use Rattle.image_layout.specs.Covering.{reach_of};
+
+    /// How many of its bytes are covered, with those that are in its holes.
+    fn reach(&self) -> u64
+        ensures { result ≡ reach_of self.now }
+    {
+        if self.whole { self.size } else { self.len }
+    }
+}
+
 /// Adds all of an image, where all of it is covered.
 fn add_whole(cover: &mut Cover, whole: bool, size: u64) -> Result<(), NoMemory>
     requires { size ≤ 2 ^ 43 }
@@ -158,8 +169,7 @@ fn add_part(cover: &mut Cover, part: &Placed) -> Result<(), NoMemory>
     ensures ok { OnOk result (Gains cover.old (is_shown part.now) cover.new) }
     ensures few { length cover.new ≤ length cover.old + 65 }
 {
-    let reach = if part.whole { part.size } else { part.len };
-    add_between(cover, part.at, reach, part.holes.as_slice())?;
+    add_between(cover, part.at, part.reach(), part.holes.as_slice())?;
     Ok(())
 }
 
