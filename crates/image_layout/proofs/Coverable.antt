@@ -1,6 +1,6 @@
 -- What a layout that can be covered has: few things, each at a place that can be counted.
-use Rattle.std.specs.Prelude.{◌≡◌, ◌≢◌, ℕ, ◌+◌, ◌*◌, ◌^◌, ◌≤◌, List, [], ◌∷◌, All, Option, Some, None, IfSome, IsSomeAnd, length}
-use Rattle.std.proofs.Common.{refl, sym, ap, subst, arith, inl, inr}
+use Rattle.std.specs.Prelude.{◌≡◌, ◌≢◌, ℕ, ◌^◌, ◌≤◌, List, [], ◌∷◌, All, Option, Some, None, IfSome, IsSomeAnd, length}
+use Rattle.std.proofs.Common.{sym, subst, arith, inl, inr}
 use Rattle.base_fields.specs.declared.spans.TableKind.{TableKind}
 use Rattle.base_fields.specs.declared.spans.TableKind.TheVariants as table
 use Rattle.mbr_table.specs.declared.mbr.MbrSpec.{MbrSpec}

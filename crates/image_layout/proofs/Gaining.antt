@@ -1,5 +1,5 @@
 -- What a cover gains by one thing after another.
-use Rattle.std.specs.Prelude.{◌≡◌, ℕ, ◌+◌, ◌-◌, ◌*◌, ◌<◌, ◌≤◌, List, [], ◌∷◌, ◌++◌, take, length, Option, Some, None, Bool, true, false, ◌&&◌, ◌||◌, not, nat_le, nat_lt, is_some, if◌then◌else◌}
+use Rattle.std.specs.Prelude.{◌≡◌, ℕ, ◌+◌, ◌-◌, ◌*◌, ◌<◌, ◌≤◌, List, [], ◌∷◌, ◌++◌, take, length, Option, Some, Bool, true, false, ◌&&◌, ◌||◌, not, nat_le, nat_lt, is_some, if◌then◌else◌}
 use Rattle.std.specs.List.{list_any}
 use Rattle.std.proofs.Common.{refl, ◌∙◌, sym, ap, arith, get_or}
 use Rattle.std.proofs.Math.Bool.{or_assoc}
@@ -13,7 +13,7 @@ use Rattle.span_cover.specs.Cover.{HasMore, covers, has}
 use Rattle.extended_chain.specs.Chain.{chain_parts, record_parts, start_of}
 use Rattle.extended_chain.specs.declared.chain.LogicalSpec.{LogicalSpec}
 use Rattle.image_layout.specs.Covering.{Gains, is_in, is_left, is_shown, reach_of}
-use Rattle.image_layout.specs.Layout.{end_of, guid_parts_of, has_file_byte, is_claimed, is_covered, record_parts_of, table_byte, table_parts}
+use Rattle.image_layout.specs.Layout.{guid_parts_of, is_covered, record_parts_of, table_byte, table_parts}
 use Rattle.image_layout.specs.declared.layout.Layout.{Layout}
 use Rattle.image_layout.specs.declared.layout.Placed.{Placed}
 

@@ -1,10 +1,8 @@
 -- Worked rows of the definitions: a boot loader round a table, and one partition in the hole of another.
-use Rattle.std.specs.Prelude.{◌≡◌, ℕ, zero, suc, ◌+◌, ◌<◌, ◌≤◌, List, [], ◌∷◌, None, Some, true, false, IsTrue}
-use Rattle.std.proofs.Common.{refl, arith}
-use Rattle.base_fields.specs.declared.spans.Span.{Span}
+use Rattle.std.specs.Prelude.{◌≡◌, ℕ, List, [], ◌∷◌, None, Some, true, false}
+use Rattle.std.proofs.Common.{refl}
 use Rattle.base_fields.specs.declared.spans.TableKind.TheVariants as table
 use Rattle.image_layout.specs.Covering.{is_shown}
-use Rattle.image_layout.specs.IsLayout.{AreHoles, ClaimApart, IsLayout}
 use Rattle.image_layout.specs.Layout.{byte_at, has_file_byte, is_claimed, is_covered}
 use Rattle.image_layout.specs.declared.layout.Layout.{Layout}
 use Rattle.image_layout.specs.declared.layout.Placed.{Placed}
@@ -47,13 +45,13 @@ row-whole = refl
 
 -- ---- an image of 12 bytes: a file of 10 bytes with a hole of 4, and one of 2 bytes in that hole
 
-abbrev outer : Placed
+abbrev pub outer : Placed
 outer = record { name = []; source = Some (97 ∷ []); at = 0; size = 10; len = 10; whole = false; holes = record { at = 3; len = 4 } ∷ [] }
 
-abbrev inner : Placed
+abbrev pub inner : Placed
 inner = record { name = []; source = Some (98 ∷ []); at = 4; size = 2; len = 2; whole = false; holes = [] }
 
-abbrev nested : Layout
+abbrev pub nested : Layout
 nested = record {
   file = 99 ∷ [];
   size = 12;

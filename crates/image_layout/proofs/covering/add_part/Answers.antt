@@ -1,8 +1,3 @@
-use Rattle.std.proofs.Common.{◌≡◌, ◌||◌, ◌∙◌, ap, List}
-use Rattle.std.specs.Prelude.{Bool}
-use Rattle.base_fields.specs.declared.spans.Span.{Span}
-use Rattle.span_cover.specs.Cover.{covers}
-use Rattle.image_layout.specs.Covering.{Gains, is_left}
 use Rattle.image_layout.proofs.Gaining.{gains_part}
 use Rattle.image_layout.proofs.covering.add_part.Goals as goal
 

@@ -1,4 +1,4 @@
-use Rattle.std.proofs.Common.{arith, ◌*◌}
+use Rattle.std.proofs.Common.{arith}
 use Rattle.image_layout.specs.Covering.{is_shown}
 use Rattle.image_layout.proofs.Gaining.{gains_all, gains_more}
 use Rattle.image_layout.proofs.covering.add_parts.Goals as goal

@@ -1,6 +1,4 @@
-use Rattle.std.proofs.Common.{◌≡◌, List, ap, arith, length}
-use Rattle.std.specs.Prelude.{Bool}
-use Rattle.image_layout.specs.Covering.{Gains, is_in, is_shown}
+use Rattle.std.proofs.Common.{◌≡◌, ap, arith, length}
 use Rattle.image_layout.proofs.Coverable.{IsCoverable, coverable}
 use Rattle.image_layout.proofs.Gaining.{covers_layout}
 use Rattle.image_layout.proofs.layout.Layout.covered.Goals as goal
