@@ -2,6 +2,7 @@
 mod Between
 mod Coverable
 mod Gaining
+mod GuidWitness
 mod Rows
 mod Witness
 pub mod Bytes

@@ -22,7 +22,7 @@ use Rattle.image_layout.proofs.Rows.{inner, nested, outer}
 
 -- ---- a partition in the hole of another
 
-no_holes : AreHoles []
+pub no_holes : AreHoles []
 no_holes = record {
   few = lit≤ tt;
   filled = λ k d below. absurd (omega arith);
