@@ -1,20 +1,18 @@
 -- Layouts with a GUID partition table that meet what is asked of one: a protective record beside it, and a hybrid's.
-use Rattle.std.specs.Prelude.{◌≡◌, ℕ, zero, suc, ◌+◌, ◌*◌, ◌/◌, ◌^◌, ◌<◌, ◌≤◌, List, [], ◌∷◌, ◌++◌, All, None, Some, true, false, IsTrue, replicate}
-use Rattle.std.proofs.Common.{refl, arith, inl, inr, lit<, lit≤}
+use Rattle.std.specs.Prelude.{◌≡◌, ℕ, zero, suc, ◌+◌, ◌<◌, ◌≤◌, [], ◌∷◌, All, None, Some, true, false, IsTrue, replicate}
+use Rattle.std.proofs.Common.{refl, arith, inl, lit<, lit≤}
 use Rattle.std.proofs.lemmas.Bool.Decides.{nat_tests}
 use Rattle.std.proofs.lemmas.List.Elements.{All-cons, All-nil}
-use Rattle.base_fields.specs.Parts.{AreApart, AreInOrder, IsIn, Part}
+use Rattle.base_fields.specs.Parts.{AreInOrder, IsIn}
 use Rattle.base_fields.specs.declared.spans.TableKind.{TableKind}
 use Rattle.base_fields.specs.declared.spans.TableKind.TheVariants as table
 use Rattle.base_fields.proofs.PartBytes.{in_order_apart, part_byte-none}
 use Rattle.mbr_table.specs.Mbr.{no_entry, protective}
-use Rattle.mbr_table.specs.declared.mbr.MbrEntry.{MbrEntry}
 use Rattle.mbr_table.specs.declared.mbr.MbrSpec.{MbrSpec}
-use Rattle.gpt_table.specs.Gpt.{GptFits, HasRoom, front_end}
-use Rattle.gpt_table.specs.GptParts.{IsApart}
+use Rattle.gpt_table.specs.Gpt.{GptFits}
 use Rattle.gpt_table.specs.declared.table.GptSpec.{GptSpec}
-use Rattle.hybrid_table.specs.Hybrid.{HybridFits, hybrid_spec}
-use Rattle.image_layout.specs.IsLayout.{AreHoles, IsGuid, IsHybrid, IsLayout, IsPart, IsProtected, IsTabled, LiesApart}
+use Rattle.hybrid_table.specs.Hybrid.{hybrid_spec}
+use Rattle.image_layout.specs.IsLayout.{IsGuid, IsLayout, IsPart, IsTabled, LiesApart}
 use Rattle.image_layout.specs.Layout.{is_claimed, table_byte, table_parts}
 use Rattle.image_layout.specs.declared.layout.Layout.{Layout}
 use Rattle.image_layout.specs.declared.layout.Placed.{Placed}

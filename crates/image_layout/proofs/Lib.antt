@@ -7,3 +7,4 @@ mod Rows
 mod Witness
 pub mod Bytes
 pub mod ReadsBack
+pub mod Tables

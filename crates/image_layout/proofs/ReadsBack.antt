@@ -1,13 +1,12 @@
 -- An image that has the bytes of a layout's tables reads back as the layout has them.
-use Rattle.std.specs.Prelude.{◌≡◌, ◌≢◌, ℕ, ◌/◌, ◌<◌, List, [], ◌∷◌, ◌++◌, Option, Some, None, IsSomeAnd, length, map}
-use Rattle.std.proofs.Common.{refl, sym, ap, subst, arith}
+use Rattle.std.specs.Prelude.{◌≢◌, ℕ, ◌<◌, List, [], ◌∷◌, ◌++◌, Option, Some, None, IsSomeAnd, length, map}
+use Rattle.std.proofs.Common.{refl, subst, arith}
 use Rattle.base_fields.specs.Parts.{AreApart, HoldsParts}
 use Rattle.base_fields.specs.declared.spans.TableKind.{TableKind}
 use Rattle.base_fields.specs.declared.spans.TableKind.TheVariants as table
 use Rattle.base_fields.proofs.PartBytes.{apart_front, holds_back, holds_front}
 use Rattle.mbr_table.specs.Mbr.{mbr_parts}
 use Rattle.mbr_table.specs.Reading.{MbrFits, ReadsMbr}
-use Rattle.mbr_table.specs.declared.mbr.MbrEntry.{MbrEntry}
 use Rattle.mbr_table.specs.declared.mbr.MbrSpec.{MbrSpec}
 use Rattle.mbr_table.proofs.Held.{mbr_held}
 use Rattle.mbr_table.proofs.ReadsBack.{mbr_reads_back}
@@ -17,22 +16,17 @@ use Rattle.extended_chain.specs.Extended.{ReadsExtended}
 use Rattle.extended_chain.specs.declared.chain.LogicalSpec.{LogicalSpec}
 use Rattle.extended_chain.proofs.ExtendedReads.{extended_reads_back}
 use Rattle.extended_chain.proofs.Held.{chain_held}
-use Rattle.gpt_table.specs.Gpt.{back_header, front_end, front_header, slot_of}
+use Rattle.gpt_table.specs.Gpt.{back_header, front_header, slot_of}
 use Rattle.gpt_table.specs.GptParts.{gpt_parts}
 use Rattle.gpt_table.specs.Reading.{ReadsGpt}
 use Rattle.gpt_table.specs.declared.table.GptSpec.{GptSpec}
 use Rattle.gpt_table.proofs.Parts.{gpt_held}
 use Rattle.gpt_table.proofs.ReadsBack.{gpt_reads_back}
-use Rattle.hybrid_table.specs.Hybrid.{HybridFits, hybrid_spec}
-use Rattle.hybrid_table.proofs.ReadsBack.{hybrid_fits}
 use Rattle.image_layout.specs.IsLayout.{IsChain, IsGuid, IsHybrid, IsMbr, IsProtected, IsTabled, extended_slot}
 use Rattle.image_layout.specs.Layout.{guid_parts_of, record_parts_of, table_parts}
 use Rattle.image_layout.specs.ReadsBack.{LayoutReadsBack, ReadsAs}
 use Rattle.image_layout.specs.declared.layout.Layout.{Layout}
-
-some_and : {T : Type 0} (o : Option T) (P Q : T → Type 0) → ((x : T) → P x → Q x) → IsSomeAnd o P → IsSomeAnd o Q
-some_and None P Q f is = absurd is
-some_and (Some x) P Q f is = f x is
+use Rattle.image_layout.proofs.Tables.{IsBeside, beside_hybrid, beside_protected, both_there}
 
 some_length : (xs : List LogicalSpec) → xs ≢ [] → 0 < length xs
 some_length [] some = absurd (some refl)
@@ -66,27 +60,14 @@ guid_reads l image g is holds =
     subst (λ (z : ℕ). ReadsGpt image l.size z (front_header g) (back_header g) (slot_of g.entries)) is.sector
     (gpt_reads_back g image l.size is.fits is.room (omega arith) (gpt_held g image is.fits is.apart holds))
 
-both_read : (l : Layout) (image : ℕ → ℕ) (mbr : Option MbrSpec) (gpt : Option GptSpec) → IsSomeAnd gpt (λ g. IsSomeAnd mbr (λ spec. IsGuid l g × MbrFits spec)) → AreApart (record_parts_of mbr ++ chain_parts l.logical ++ guid_parts_of gpt) → HoldsParts image (record_parts_of mbr ++ chain_parts l.logical ++ guid_parts_of gpt) → IsSomeAnd mbr (λ spec. ReadsMbr image spec) × IsSomeAnd gpt (λ g. ReadsGpt image l.size l.sector (front_header g) (back_header g) (slot_of g.entries))
+both_read : (l : Layout) (image : ℕ → ℕ) (mbr : Option MbrSpec) (gpt : Option GptSpec) → IsSomeAnd gpt (λ g. IsSomeAnd mbr (IsBeside l g)) → AreApart (record_parts_of mbr ++ chain_parts l.logical ++ guid_parts_of gpt) → HoldsParts image (record_parts_of mbr ++ chain_parts l.logical ++ guid_parts_of gpt) → IsSomeAnd mbr (λ spec. ReadsMbr image spec) × IsSomeAnd gpt (λ g. ReadsGpt image l.size l.sector (front_header g) (back_header g) (slot_of g.entries))
 both_read l image mbr None is apart holds = absurd is
 both_read l image None (Some g) is apart holds = absurd is
 both_read l image (Some spec) (Some g) is apart holds =
     let front = mbr_parts spec ++ chain_parts l.logical in (
-      record_reads spec image is.1 (holds_front image (mbr_parts spec) (chain_parts l.logical) (holds_front image front (gpt_parts g) holds)),
-      guid_reads l image g is.0 (holds_back image front (gpt_parts g) apart holds),
+      record_reads spec image is.mbr.fits (holds_front image (mbr_parts spec) (chain_parts l.logical) (holds_front image front (gpt_parts g) holds)),
+      guid_reads l image g is.guid (holds_back image front (gpt_parts g) apart holds),
     )
-
-abbrev spec_of : ℕ → List MbrEntry → MbrSpec
-spec_of signature entries = record { signature = signature; entries = entries }
-
--- a protective record is a hybrid one with no entries, of the whole disk
-protected_fits : (l : Layout) (g : GptSpec) (spec : MbrSpec) → IsProtected l g spec → MbrFits spec
-protected_fits l g spec is =
-    let given : HybridFits spec.signature [] = record { few = omega arith; signature_fits = is.signature; entries = λ k h. absurd (omega arith) } in
-    let same : spec ≡ hybrid_spec spec.signature g.sectors [] = ap (spec_of spec.signature) is.entries in
-    subst MbrFits (sym same) (hybrid_fits spec.signature g.sectors [] given)
-
-hybrid_record_fits : (l : Layout) (g : GptSpec) (spec : MbrSpec) → IsHybrid l g spec → MbrFits spec
-hybrid_record_fits l g spec is = subst MbrFits (sym is.entries) (hybrid_fits spec.signature (front_end g / 512) l.hybrid is.fits)
 
 -- ---- by the kind of table
 
@@ -96,11 +77,9 @@ read_as table.Mbr l image is apart holds =
     let front = record_parts_of l.mbr ++ chain_parts l.logical in
     slots_read l image l.mbr is (apart_front front (guid_parts_of l.gpt) apart) (holds_front image front (guid_parts_of l.gpt) holds)
 read_as table.Gpt l image is apart holds =
-    both_read l image l.mbr l.gpt
-    (some_and l.gpt _ _ (λ g some. some_and l.mbr _ _ (λ spec both. (both.guid, protected_fits l g spec both)) some) is) apart holds
+    both_read l image l.mbr l.gpt (both_there (IsProtected l) (IsBeside l) l.gpt l.mbr (beside_protected l) is) apart holds
 read_as table.Hybrid l image is apart holds =
-    both_read l image l.mbr l.gpt
-    (some_and l.gpt _ _ (λ g some. some_and l.mbr _ _ (λ spec both. (both.guid, hybrid_record_fits l g spec both)) some) is) apart holds
+    both_read l image l.mbr l.gpt (both_there (IsHybrid l) (IsBeside l) l.gpt l.mbr (beside_hybrid l) is) apart holds
 
 pub layout_reads_back : LayoutReadsBack
 layout_reads_back l image is holds = read_as l.table l image is.tabled is.apart.tables holds
