@@ -113,7 +113,8 @@ last_left at reach from o c free = same_bool _ _
 
 -- ---- the pieces so far
 
--- so many holes are behind: they end at `from`, the others begin there or later, and the cover has what they leave up to there
+-- so many holes are behind: they end at `from` or before, the others begin there or later, and the cover has what they
+-- leave up to there
 pub record IsBetween (old : List Span) (at reach : ℕ) (holes : List Span) (k from : ℕ) (cover : List Span) : Type 0 where
   pub small : from ≤ 2 ^ 43
   pub ahead : (j : ℕ) → k ≤ j → j < length holes → from ≤ (get_or holes j no_span).at
