@@ -1,13 +1,15 @@
 //! A line that is being made, part behind part.
 ghost use Rattle.std.specs.Prelude.{◌≡◌, ℕ, ◌+◌, ◌*◌, ◌≤◌, List, [], ◌++◌, length, take, decimal};
-ghost use Rattle.std.specs.Prelude.{sum_by, map};
+ghost use Rattle.std.specs.Prelude.{codes, map, sum_by};
 ghost use Rattle.hex.specs.Hex.{encode_lower};
-ghost use Rattle.answer_lines.specs.Line.{PutsLine, numbered, number_room, shown_flag, shown_name};
-ghost use Rattle.answer_lines.specs.Line.{spelled, with_fields};
-ghost use Rattle.answer_lines.specs.Row.{field_room, field_text};
+ghost use Rattle.line_parts.specs.Line.{PutsLine, numbered, number_room, part_numbered, part_room, shown_flag, shown_name};
+ghost use Rattle.line_parts.specs.Line.{spelled, with_fields};
+ghost use Rattle.line_parts.specs.Row.{device_name, field_room, field_texts, job_fields};
 
 use crate::row::{Field, Value};
+use bench::Dev;
 use itoa::Buffer;
+use journal_format::JobId;
 use std::marker::Model;
 
 /// The most bytes of a line.
@@ -128,16 +130,95 @@ impl Line {
         }
     }
 
+    // The line with the bytes of a value behind the key of a part of what another key names.
+    fn part(self, key: &str, name: &str, value: &[u8]) -> Line
+        requires { length self + (length key.now + length name.now + length value.now + 2) ≤ 1024 }
+        ensures { result ≡ self ++ spelled (key.now ++ name.now, value.now) }
+    {
+        self.with(b" ")
+            .with(key.as_bytes())
+            .with(name.as_bytes())
+            .with(b"=")
+            .with(value)
+    }
+
+    // The line with the digest of what a key names.
+    fn digest_part(self, key: &str, bytes: &[u8; 32]) -> Line
+        requires { length self + (length key.now + 73) ≤ 1024 }
+        ensures added { result ≡ self ++ spelled (key.now ++ codes ".digest", encode_lower bytes.now) }
+        ensures room { length result ≤ length self + (length key.now + 73) }
+    {
+        let mut digits = [0; 64];
+        match hex::encode_to_slice(bytes.as_slice(), &mut digits) {
+            Ok(()) => self.part(key, ".digest", digits.as_slice()),
+            Err(_) => unreachable!(),
+        }
+    }
+
+    // The line with a number of what a key names.
+    fn number_part(self, key: &str, name: &str, n: u64) -> Line
+        requires { length self + (length key.now + length name.now + 22) ≤ 1024 }
+        ensures added { result ≡ self ++ spelled (key.now ++ name.now, decimal n) }
+        ensures room { length result ≤ length self + (length key.now + length name.now + 22) }
+    {
+        self.part(key, name, Buffer::new().format(n).as_bytes())
+    }
+
+    // The line with numbers of what a key names, in this order.
+    fn number_parts(self, key: &str, numbers: &[(&'static str, u64)]) -> Line
+        requires { length self + sum_by (part_room (length key.now)) numbers.now ≤ 1024 }
+        ensures added { result ≡ with_fields self (map (part_numbered key.now) numbers.now) }
+        ensures room { length result ≤ length self + sum_by (part_room (length key.now)) numbers.now }
+    {
+        let mut line = self;
+        for (name, n) in numbers {
+            line = line.number_part(key, name, *n);
+        }
+        line
+    }
+
+    // The line with a job behind its key, each of its fields by itself.
+    fn job(self, key: &str, id: &JobId) -> Line
+        requires { length self + (6 * length key.now + 212) ≤ 1024 }
+        ensures added { result ≡ with_fields self (job_fields key.now id.now) }
+        ensures room { length result ≤ length self + (6 * length key.now + 212) }
+    {
+        self.digest_part(key, &id.digest).number_parts(
+            key,
+            &[
+                (".size", id.size),
+                (".block", u64::from(id.block)),
+                (".unit", u64::from(id.unit)),
+                (".units", id.units),
+                (".ranges", id.ranges),
+            ],
+        )
+    }
+
+    // The line with a device behind its key.
+    fn device(self, key: &str, device: Dev) -> Line
+        requires { length self + (length key.now + 9) ≤ 1024 }
+        ensures added { result ≡ self ++ spelled (key.now, device_name device) }
+    {
+        match device {
+            Dev::Target => self.pair(key, b"target"),
+            Dev::Journal => self.pair(key, b"journal"),
+        }
+    }
+
     /// The line with a field of an answer.
     pub fn field(self, field: Field<'_>) -> Line
         requires { length self + field_room field ≤ 1024 }
-        ensures added { result ≡ self ++ spelled (field_text field.entry) }
+        ensures added { result ≡ with_fields self (field_texts field.entry) }
         ensures room { length result ≤ length self + field_room field.entry }
     {
         match field.value {
             Value::Text(name) => self.text(field.key, name.text()),
             Value::Number(n) => self.number(field.key, n),
             Value::Digest(bytes) => self.digest(field.key, bytes),
+            Value::Flag(holds) => self.flag(field.key, holds),
+            Value::Device(device) => self.device(field.key, device),
+            Value::Job(id) => self.job(field.key, id),
         }
     }
 

@@ -1,6 +1,6 @@
 use Rattle.std.proofs.Common.{◌≡◌, ◌+◌, ◌≤◌, length, drop, map, sum_by}
-use Rattle.answer_lines.specs.Line.{number_room, numbered, with_fields}
-use Rattle.answer_lines.proofs.line.Line.numbers.Given as goal
+use Rattle.line_parts.specs.Line.{number_room, numbered, with_fields}
+use Rattle.line_parts.proofs.line.Line.numbers.Given as goal
 
 -- what is left behind the line so far makes the whole, and there is room for it
 abbrev pub invariant-loop-key : goal.invariant-loop-key

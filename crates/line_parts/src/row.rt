@@ -1,12 +1,14 @@
 //! The row of an answer in the table of answers, from which its status and its error line are made.
 ghost use Rattle.std.specs.Prelude.{◌≡◌, ◌+◌, ◌≤◌, [], ◌∷◌, length};
-ghost use Rattle.answer_lines.specs.Line.{with_fields};
-ghost use Rattle.answer_lines.specs.Row.{error_of, row_room, shown_row};
-ghost use Rattle.answer_lines.specs.declared.row.Fields.TheVariants as fields;
-ghost use Rattle.answer_lines.specs.declared.row.Value.TheVariants as value;
+ghost use Rattle.line_parts.specs.Line.{with_fields};
+ghost use Rattle.line_parts.specs.Row.{error_of, row_room, shown_row};
+ghost use Rattle.line_parts.specs.declared.row.Fields.TheVariants as fields;
+ghost use Rattle.line_parts.specs.declared.row.Value.TheVariants as value;
 
 use crate::line::Line;
 use base_fields::Name;
+use bench::Dev;
+use journal_format::JobId;
 
 /// The value of a field as it is printed.
 #[derive(Clone, Copy)]
@@ -17,6 +19,12 @@ pub enum Value<'a> {
     Number(u64),
     /// A digest in lower-case hexadecimal digits.
     Digest(&'a [u8; 32]),
+    /// A truth value, as 1 or 0.
+    Flag(bool),
+    /// A device, `target` or `journal`.
+    Device(Dev),
+    /// A job, each of its fields by itself: `key.digest`, `key.size` and so on.
+    Job(&'a JobId),
 }
 
 /// A field of an answer.
@@ -56,6 +64,36 @@ pub fn digest<'a>(key: &'static str, bytes: &'a [u8; 32]) -> Field<'a>
     }
 }
 
+/// A field that shows a truth value.
+pub fn flag<'a>(key: &'static str, holds: bool) -> Field<'a>
+    ensures { result ≡ record { key = key.entry; value = value.Flag holds } }
+{
+    Field {
+        key,
+        value: Value::Flag(holds),
+    }
+}
+
+/// A field that shows a device.
+pub fn device<'a>(key: &'static str, device: Dev) -> Field<'a>
+    ensures { result ≡ record { key = key.entry; value = value.Device device } }
+{
+    Field {
+        key,
+        value: Value::Device(device),
+    }
+}
+
+/// A field that shows a job.
+pub fn job<'a>(key: &'static str, id: &'a JobId) -> Field<'a>
+    ensures { result ≡ record { key = key.entry; value = value.Job id.entry } }
+{
+    Field {
+        key,
+        value: Value::Job(id),
+    }
+}
+
 /// The fields of an answer in their order.
 #[derive(Clone, Copy)]
 pub enum Fields<'a> {
@@ -75,6 +113,7 @@ pub struct Row<'a> {
 
 impl<'a> Row<'a> {
     /// The error line, and nothing where there is no label.
+    #[tactic(auto, using(crate::proofs::Joined::with_fields_both))]
     pub fn line(&self) -> Line
         requires { row_room self.now ≤ 1000 }
         ensures { result ≡ error_of (shown_row self.now) }

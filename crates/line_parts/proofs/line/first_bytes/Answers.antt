@@ -1,6 +1,6 @@
 use Rattle.std.proofs.Common.{arith, sym}
 use Rattle.std.proofs.lemmas.List.{take_all}
-use Rattle.answer_lines.proofs.line.first_bytes.Goals as goal
+use Rattle.line_parts.proofs.line.first_bytes.Goals as goal
 
 pub returns-then-bytes-lt-NAME_ROOM-clause-shown :
     goal.returns-then-bytes-lt-NAME_ROOM-clause-shown

@@ -28,6 +28,13 @@ numbered field = (field.0.now, decimal field.1)
 abbrev pub number_room : Bor (List ℕ) × ℕ → ℕ
 number_room field = length field.0.now + 22
 
+-- a number of what a key names, and the most bytes that it takes
+abbrev pub part_numbered : List ℕ → Bor (List ℕ) × ℕ → List ℕ × List ℕ
+part_numbered key field = (key ++ field.0.now, decimal field.1)
+
+abbrev pub part_room : ℕ → Bor (List ℕ) × ℕ → ℕ
+part_room key field = key + length field.0.now + 22
+
 -- a line stands at the front of the room, which has n bytes of it
 pub record PutsLine (line room : List ℕ) (n : ℕ) : Type 0 where
   pub front : take n room ≡ line
