@@ -1,0 +1,3 @@
+-- lemmas
+mod GateLemmas
+mod PieceLemmas
