@@ -1,18 +1,17 @@
 -- The gate of a journal, closed and opened, and the bytes around it.
-use Rattle.std.proofs.Common.{◌≡◌, ◌≢◌, ◌⊎◌, ℕ, ◌+◌, ◌-◌, ◌<◌, ◌≤◌, List, [], ◌∷◌, ◌++◌, length, replicate, take, drop, get_or, slice_index, ap, subst, sym, inl, inr, ⊎_elim, ◌∙◌, refl, arith, Bool, IsTrue, Option, None, Some}
+use Rattle.std.proofs.Common.{◌≡◌, ◌⊎◌, ℕ, ◌+◌, ◌-◌, ◌<◌, ◌≤◌, List, [], ◌∷◌, ◌++◌, length, replicate, take, drop, slice_index, ap, subst, sym, inl, inr, ⊎_elim, ◌∙◌, refl, arith, Bool, IsTrue, Option, None, Some}
 use Rattle.std.proofs.lemmas.Bool.{cases_eq, cases_lt}
-use Rattle.std.proofs.lemmas.Grind.{common_steps, same_number_lists}
+use Rattle.std.proofs.lemmas.Grind.{same_number_lists}
 use Rattle.std.proofs.lemmas.List.{get_or-append-add, get_or-drop, get_or-take, length-append, length-drop, length-take-le}
 use Rattle.base_fields.specs.Fields.{written}
-use Rattle.base_fields.specs.Numbers.{IsBetween}
 use Rattle.bench.specs.declared.Dev.{Dev}
 use Rattle.bench.specs.declared.Dev.TheVariants.{Target, Journal}
-use Rattle.bench.specs.Disk.{Changes, Disk, Grown, Grows, IsSettled, Looked, Moves, Steps, StillLeaves, Torn, Touches}
+use Rattle.bench.specs.Disk.{Disk, Grows, IsSettled, Looked, Moves, Steps, StillLeaves, Torn, Touches}
 use Rattle.bench.proofs.DiskLemmas.{changes_so, changes_then, grown_then, looked_changes, looked_steps, looked_then, steps_changes, steps_so, steps_then}
 use Rattle.journal_format.specs.JobFields.{fields_of}
-use Rattle.journal_format.specs.Journals.{HasAllMarks, HasVersion, IsHeld, IsMarked, IsOpenedFor, fields_in, magic_2, window_of}
+use Rattle.journal_format.specs.Journals.{HasAllMarks, IsHeld, IsMarked, IsOpenedFor, IsWindow, fields_in, magic_2, window_of}
 use Rattle.journal_format.specs.declared.jobs.JobId.{JobId}
-use Rattle.journal_format.proofs.JournalLemmas.{SameBelow, front_fields, front_window, held_front, held_in_front, same_front, same_held, same_run, window_2}
+use Rattle.journal_format.proofs.JournalLemmas.{front_fields, front_window, held_front, held_in_front, same_front, same_held, same_run, window_2}
 use Rattle.copy_journal.proofs.PieceLemmas.{length-written, written_above, written_below, written_inside}
 use Rattle.copy_journal.specs.Events.{AreMarked, AreZero, Finds, IsClosedOrNew, IsForgetting, IsFound, IsNew, IsReady, IsShut, SameGate, Tells}
 use Rattle.copy_journal.specs.declared.looking.Found.{Found}
@@ -62,7 +61,7 @@ fields_torn was now torn long =
     same_run 16 64 was now (omega arith) (omega arith) (λ k low high. torn.above k (omega arith))
 
 -- a journal that is ready is a new one where its gate is open
-pub ready_gate : (id : JobId) (w : ℕ) (was now : List ℕ) → IsBetween 1 16 w → IsReady id w was → Torn 8 1 was now → slice_index now 8 ≡ 0x47 → IsNew id w now
+pub ready_gate : (id : JobId) (w : ℕ) (was now : List ℕ) → IsWindow w → IsReady id w was → Torn 8 1 was now → slice_index now 8 ≡ 0x47 → IsNew id w now
 ready_gate id w was now window ready torn gate =
     let size = torn.size in
     let enough = ready.long in
@@ -71,7 +70,7 @@ ready_gate id w was now window ready torn gate =
     let nine : slice_index now 9 ≡ w = torn.above 9 (omega arith) ∙ ready.window in
     record {
       opened = record {
-        held = record { long = long; gate = gate; version = inr (magic, subst (IsBetween 1 16) (sym nine) window) };
+        held = record { long = long; gate = gate; version = inr (magic, subst IsWindow (sym nine) window) };
         fields = fields_torn was now torn (omega arith) ∙ ready.fields;
         long = omega arith;
       };
@@ -80,7 +79,7 @@ ready_gate id w was now window ready torn gate =
     }
 
 -- whatever its gate is, it isn't held, or it is opened with no mark
-pub ready_torn : (id : JobId) (w : ℕ) (was now : List ℕ) → IsBetween 1 16 w → IsReady id w was → Torn 8 1 was now → IsClosedOrNew id now
+pub ready_torn : (id : JobId) (w : ℕ) (was now : List ℕ) → IsWindow w → IsReady id w was → Torn 8 1 was now → IsClosedOrNew id now
 ready_torn id w was now window ready torn = elim (cases_eq (slice_index now 8) 0x47) [
   | inl opens ↦ let new = ready_gate id w was now window ready torn opens in inr (new.opened, λ i h mark. let zero = new.marks i h in omega (arith, zero, mark))
   | inr shut ↦ inl (λ h. shut h.gate)
@@ -94,7 +93,7 @@ gate_torn was byte long = record {
   above = λ k h. written_above was (byte ∷ []) 8 k (omega arith) h;
 }
 
-pub new_opened : (id : JobId) (w : ℕ) (was now : List ℕ) → IsBetween 1 16 w → IsReady id w was → now ≡ written was 8 (0x47 ∷ []) → IsNew id w now
+pub new_opened : (id : JobId) (w : ℕ) (was now : List ℕ) → IsWindow w → IsReady id w was → now ≡ written was 8 (0x47 ∷ []) → IsNew id w now
 new_opened id w was now window ready is =
     let long = ready.long in
     let torn : Torn 8 1 was now = subst (Torn 8 1 was) (sym is) (gate_torn was 0x47 (omega arith)) in
@@ -183,7 +182,7 @@ shut_moves {id} {a} {b} {c} first settled shut steps =
     inl (shut_not_held now (λ opens. shut (ap (λ (j : List ℕ). slice_index j 8) (sym is) ∙ (sym same ∙ opens))))))
 
 -- and its gate after that
-pub open_moves : {id : JobId} {w : ℕ} {a b c : Disk} → IsBetween 1 16 w → Moves (IsClosedOrNew id) a b → IsReady id w (b.reads Journal) → Moves (Torn 8 1 (b.reads Journal)) b c → Moves (IsClosedOrNew id) a c
+pub open_moves : {id : JobId} {w : ℕ} {a b c : Disk} → IsWindow w → Moves (IsClosedOrNew id) a b → IsReady id w (b.reads Journal) → Moves (Torn 8 1 (b.reads Journal)) b c → Moves (IsClosedOrNew id) a c
 open_moves {id} {w} {a} {b} {c} window first ready second =
     changes_then first (changes_so second (λ image torn. ready_torn id w (b.reads Journal) image window ready torn))
 

@@ -1,3 +1,4 @@
 -- lemmas
 mod GateLemmas
+pub mod KeptOpened
 mod PieceLemmas

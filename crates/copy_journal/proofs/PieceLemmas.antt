@@ -1,5 +1,5 @@
 -- Marks and zeros, written and read.
-use Rattle.std.proofs.Common.{◌≡◌, ◌⊎◌, ℕ, ◌+◌, ◌-◌, ◌<◌, ◌≤◌, List, [], ◌∷◌, ◌++◌, All, length, map, take, drop, Contains, get_or, slice_index, ap, subst, sym, inl, inr, ⊎_elim, ◌∙◌, arith}
+use Rattle.std.proofs.Common.{◌≡◌, ◌⊎◌, ℕ, ◌+◌, ◌-◌, ◌<◌, ◌≤◌, List, [], ◌∷◌, ◌++◌, All, length, map, take, drop, Contains, get_or, slice_index, ap, subst, sym, inl, inr, ◌∙◌, arith}
 use Rattle.std.proofs.lemmas.Bool.{cases_lt}
 use Rattle.std.proofs.lemmas.Grind.{common_steps, get_or_default_zero}
 use Rattle.std.proofs.lemmas.List.{get_or-append_right, get_or-drop, get_or-map, get_or-take, length-append, length-drop, length-take-le}
@@ -8,7 +8,6 @@ use Rattle.base_fields.specs.Fields.{written}
 use Rattle.bench.specs.declared.Dev.{Dev}
 use Rattle.bench.specs.Disk.{Disk, Touches}
 use Rattle.bench.proofs.DiskLemmas.{touches_then, touches_within}
-use Rattle.journal_format.specs.Journals.{unit_mark}
 use Rattle.copy_journal.specs.Events.{AreMarked, AreZero, IsMarkOf}
 
 -- ---- what a write leaves

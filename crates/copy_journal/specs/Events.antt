@@ -8,6 +8,10 @@ use Rattle.journal_format.specs.declared.jobs.JobId.{JobId}
 use Rattle.copy_journal.specs.declared.looking.Found.{Found}
 use Rattle.copy_journal.specs.declared.marks.Marks.{Marks}
 
+-- each image of the journal that a stop now may leave has P
+abbrev pub EachImage : Disk → (List ℕ → Type 0) → Type 0
+EachImage disk P = (image : List ℕ) → disk.leaves Journal image → P image
+
 -- the place is that of one of these units' marks
 abbrev pub IsMarkOf : List ℕ → ℕ → Type 0
 IsMarkOf ks place = Contains (map unit_mark ks) place

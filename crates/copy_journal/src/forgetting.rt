@@ -1,8 +1,8 @@
-ghost use Rattle.std.specs.Prelude.{◌≡◌, ◌↔◌, List, ℕ, IfErr, IfOk, IsTrue, OnOk};
+ghost use Rattle.std.specs.Prelude.{◌≡◌, ◌↔◌, IfErr, IfOk, IsTrue, OnOk};
 ghost use Rattle.bench.specs.Disk.{IsSettled, Looked, Moves, Touches};
 ghost use Rattle.bench.specs.Meter.{CostsOn, IsAttached, SameNames};
 ghost use Rattle.journal_format.specs.Journals.{IsHeld};
-ghost use Rattle.copy_journal.specs.Events.{IsForgetting};
+ghost use Rattle.copy_journal.specs.Events.{EachImage, IsForgetting};
 ghost use Rattle.copy_journal.specs.Faults.{IsDeviceFault};
 
 use crate::JournalFault;
@@ -18,7 +18,7 @@ pub fn forget<B: Bench>(bench: &mut B) -> Result<bool, JournalFault>
     ensures touches { B.told → Touches Dev.Journal 8 1 (B.disk bench.old) (B.disk bench.new) }
     ensures unwritten { B.told → ¬ IsHeld ((B.disk bench.old).reads Dev.Journal) → Looked (B.disk bench.old) (B.disk bench.new) }
     ensures settled { OnOk result (IsSettled (B.disk bench.new) Dev.Journal) }
-    ensures closed { B.told → OnOk result (¬ IsHeld ((B.disk bench.new).reads Dev.Journal)) }
+    ensures closed { B.told → OnOk result (EachImage (B.disk bench.new) (λ image. ¬ IsHeld image)) }
     ensures cause { IfErr result (IsDeviceFault (B.meter bench.old) (B.meter bench.new)) }
     ensures bill { CostsOn Dev.Journal 1024 (B.meter bench.old) (B.meter bench.new) }
     ensures same_names { SameNames (B.meter bench.old) (B.meter bench.new) }

@@ -1,12 +1,11 @@
-ghost use Rattle.std.specs.Prelude.{◌≡◌, ◌+◌, ◌*◌, ◌≤◌, ◌↔◌, ◌∷◌, [], IfErr, IfOk, IsTrue, OnErr, OnOk, length};
-ghost use Rattle.base_fields.specs.Numbers.{IsBetween};
+ghost use Rattle.std.specs.Prelude.{◌≡◌, ◌⊎◌, ◌+◌, ◌*◌, ◌≤◌, ◌↔◌, ◌∷◌, [], IfErr, IfOk, IsTrue, OnErr, OnOk, length};
 ghost use Rattle.base_fields.specs.Fields.{written};
 ghost use Rattle.bench.specs.Disk.{Grows, IsSettled, Looked, Moves, StillLeaves, Steps, Torn};
 ghost use Rattle.bench.specs.Meter.{CostsOn, IsAttached, SameNames};
 ghost use Rattle.bench.specs.declared.Dev.{Dev};
 ghost use Rattle.journal_format.specs.JobFields.{IsWithinLimits};
-ghost use Rattle.journal_format.specs.Journals.{HasAllMarks, IsHeld, IsOpenedFor};
-ghost use Rattle.copy_journal.specs.Events.{IsClosedOrNew, IsFound, IsNew, IsOpening, IsReady, IsShut, SameGate};
+ghost use Rattle.journal_format.specs.Journals.{HasAllMarks, IsHeld, IsOpenedFor, IsWindow};
+ghost use Rattle.copy_journal.specs.Events.{EachImage, IsClosedOrNew, IsFound, IsNew, IsOpening, IsReady, IsShut, SameGate};
 ghost use Rattle.copy_journal.specs.Faults.{HasFailed, IsNewFault};
 
 use crate::JournalFault;
@@ -20,8 +19,9 @@ use journal_format::{GATE, GATE_OPEN, JobId, MAGIC, MARKS, body_of};
 pub fn open_new<B: Bench>(bench: &mut B, id: &JobId, window: u32) -> Result<(), JournalFault>
     requires attached { IsAttached (B.meter bench.old) Dev.Journal }
     requires limits { IsWithinLimits id.now }
-    requires window { IsBetween 1 16 window }
+    requires window { IsWindow window }
     ensures moves { B.told → Moves (IsOpening id.now (B.disk bench.old)) (B.disk bench.old) (B.disk bench.new) }
+    ensures after { B.told → Looked (B.disk bench.old) (B.disk bench.new) ⊎ EachImage (B.disk bench.new) (IsClosedOrNew id.now) }
     ensures unwritten { B.told → IsHeld ((B.disk bench.old).reads Dev.Journal) → Looked (B.disk bench.old) (B.disk bench.new) }
     ensures held { B.told → OnOk result (¬ IsHeld ((B.disk bench.old).reads Dev.Journal)) }
     ensures ok { B.told → OnOk result (IsNew id.now window ((B.disk bench.new).reads Dev.Journal)) }
@@ -66,7 +66,7 @@ fn is_finished<B: Bench>(bench: &mut B, id: &JobId, found: &Found) -> Result<boo
 fn start<B: Bench>(bench: &mut B, id: &JobId, window: u32) -> Result<(), BenchErr>
     requires attached { IsAttached (B.meter bench.old) Dev.Journal }
     requires limits { IsWithinLimits id.now }
-    requires window { IsBetween 1 16 window }
+    requires window { IsWindow window }
     requires settled { IsSettled (B.disk bench.old) Dev.Journal }
     requires closed { B.told → ¬ IsHeld ((B.disk bench.old).reads Dev.Journal) }
     ensures moves { B.told → Moves (IsClosedOrNew id.now) (B.disk bench.old) (B.disk bench.new) }
@@ -112,7 +112,7 @@ fn close_gate<B: Bench>(bench: &mut B) -> Result<(), BenchErr>
 fn prepare<B: Bench>(bench: &mut B, id: &JobId, window: u32) -> Result<(), BenchErr>
     requires attached { IsAttached (B.meter bench.old) Dev.Journal }
     requires limits { IsWithinLimits id.now }
-    requires window { IsBetween 1 16 window }
+    requires window { IsWindow window }
     ensures moves { B.told → Steps Dev.Journal SameGate (B.disk bench.old) (B.disk bench.new) }
     ensures ready { B.told → OnOk result (IsReady id.now window ((B.disk bench.new).reads Dev.Journal)) }
     ensures settled { OnOk result (IsSettled (B.disk bench.new) Dev.Journal) }

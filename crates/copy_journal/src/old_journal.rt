@@ -1,4 +1,5 @@
 ghost use Rattle.std.specs.Prelude.{◌≡◌, ◌+◌, ◌*◌, ◌≤◌, IfErr, IfOk, OnErr, OnOk, length, take, drop, vec_len};
+ghost use Rattle.block_map.specs.Units.{max_units};
 ghost use Rattle.bench.specs.Disk.{IsSettled, Looked, StillLeaves};
 ghost use Rattle.bench.specs.Meter.{CostsOn, IsAttached, SameNames};
 ghost use Rattle.bench.specs.declared.Dev.{Dev};
@@ -56,7 +57,7 @@ fn read_marks<B: Bench>(
 ) -> Result<Bytes, JournalFault>
     requires attached { IsAttached (B.meter bench.old) Dev.Journal }
     requires inside { B.told → at + count ≤ length ((B.disk bench.old).reads Dev.Journal) }
-    requires few { count ≤ 4194304 }
+    requires few { count ≤ max_units }
     ensures exact { B.told → IfOk result (λ marks. marks ≡ take count (drop at ((B.disk bench.old).reads Dev.Journal))) }
     ensures looked { Looked (B.disk bench.old) (B.disk bench.new) }
     ensures stays { (each : Dev) → StillLeaves each (B.disk bench.old) (B.disk bench.new) }

@@ -1,4 +1,3 @@
-use Rattle.std.proofs.Common.{sym, subst, IsTrue}
 use Rattle.bench.specs.declared.Dev.TheVariants.{Journal}
 use Rattle.copy_journal.proofs.GateLemmas.{finished_is}
 use Rattle.copy_journal.proofs.new_journal.is_finished.Goals as goal

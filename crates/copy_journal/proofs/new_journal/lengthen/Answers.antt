@@ -1,5 +1,3 @@
-use Rattle.std.proofs.Common.{rules}
-use Rattle.bench.proofs.DiskLemmas.{steps_then}
 use Rattle.copy_journal.proofs.GateLemmas.{looked_grows}
 use Rattle.copy_journal.proofs.new_journal.lengthen.Goals as goal
 

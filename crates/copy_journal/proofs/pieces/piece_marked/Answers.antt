@@ -1,4 +1,3 @@
-use Rattle.std.proofs.Common.{ap}
 use Rattle.bench.specs.declared.Dev.TheVariants.{Journal}
 use Rattle.copy_journal.proofs.PieceLemmas.{marked_run}
 use Rattle.copy_journal.proofs.pieces.piece_marked.Goals as goal

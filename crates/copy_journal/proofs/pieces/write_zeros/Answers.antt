@@ -1,7 +1,6 @@
-use Rattle.std.proofs.Common.{◌≡◌, ◌+◌, ◌-◌, ◌<◌, ◌≤◌, length, take, ap, subst, sym, ◌∙◌, arith, rules}
+use Rattle.std.proofs.Common.{◌≡◌, length, arith, rules}
 use Rattle.std.proofs.lemmas.Grind.{common_steps}
 use Rattle.bench.specs.declared.Dev.TheVariants.{Journal}
-use Rattle.copy_journal.specs.Events.{AreZero}
 use Rattle.copy_journal.proofs.PieceLemmas.{touches_more, zeros_last}
 use Rattle.copy_journal.proofs.pieces.write_zeros.Goals as goal
 
