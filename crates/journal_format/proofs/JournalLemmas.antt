@@ -6,8 +6,7 @@ use Rattle.std.proofs.Common.{refl, ◌∙◌, sym, ap, subst, inl, inr, ⊎_eli
 use Rattle.std.proofs.lemmas.Bool.{false≢true}
 use Rattle.std.proofs.lemmas.Grind.{same_number_lists}
 use Rattle.std.proofs.lemmas.List.{get_or-drop, get_or-take, length-drop, length-take-le}
-use Rattle.base_fields.specs.Numbers.{IsBetween}
-use Rattle.journal_format.specs.Journals.{HasVersion, IsHeld, IsOpenedFor, fields_in, magic_1, magic_2, window_of}
+use Rattle.journal_format.specs.Journals.{HasVersion, IsHeld, IsOpenedFor, IsWindow, fields_in, magic_1, magic_2, window_of}
 use Rattle.journal_format.specs.declared.jobs.JobId.{JobId}
 
 -- ---- magics and windows
@@ -33,7 +32,7 @@ no_version first second j not_first not_second is_first is_second version =
     ⊎_elim (λ h. let e : first ≡ true = is_first h in absurd (false≢true (sym not_first ∙ e))) (λ h. let e : second ≡ true = is_second h.0 in absurd (false≢true (sym not_second ∙ e))) version
 
 -- the second version has a window from 1 to 16
-pub second_version : (first : Bool) (j : List ℕ) → first ≡ false → (take 8 j ≡ magic_1 → first ≡ true) → HasVersion j → IsBetween 1 16 (slice_index j 9)
+pub second_version : (first : Bool) (j : List ℕ) → first ≡ false → (take 8 j ≡ magic_1 → first ≡ true) → HasVersion j → IsWindow (slice_index j 9)
 second_version first j not_first is_first version =
     ⊎_elim (λ h. let e : first ≡ true = is_first h in absurd (false≢true (sym not_first ∙ e))) (λ h. h.1) version
 
@@ -71,7 +70,7 @@ same_head a b in_a in_b same = record {
 
 pub same_version : (a b : List ℕ) → SameHead a b → HasVersion a → HasVersion b
 same_version a b head version =
-    ⊎_elim (λ first. inl (head.magic ∙ first)) (λ second. inr (head.magic ∙ second.0, subst (λ (w : ℕ). IsBetween 1 16 w) (sym head.window) second.1)) version
+    ⊎_elim (λ first. inl (head.magic ∙ first)) (λ second. inr (head.magic ∙ second.0, subst IsWindow (sym head.window) second.1)) version
 
 pub same_window : (a b : List ℕ) → SameHead a b → HasVersion a → window_of b ≡ window_of a
 same_window a b head version =

@@ -27,9 +27,13 @@ magic_1 = codes "GFJRNL01"
 unfoldable pub magic_2 : List ℕ
 magic_2 = codes "GFJRNL02"
 
--- the image has the first version's magic, or the second's and a window from 1 to 16
+-- a window
+abbrev pub IsWindow : ℕ → Type 0
+IsWindow w = IsBetween 1 16 w
+
+-- the image has the first version's magic, or the second's and a window
 abbrev pub HasVersion : List ℕ → Type 0
-HasVersion j = (take 8 j ≡ magic_1) ⊎ ((take 8 j ≡ magic_2) × IsBetween 1 16 (slice_index j 9))
+HasVersion j = (take 8 j ≡ magic_1) ⊎ ((take 8 j ≡ magic_2) × IsWindow (slice_index j 9))
 
 -- the journal is held
 pub record IsHeld (j : List ℕ) : Type 0 where

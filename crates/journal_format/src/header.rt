@@ -1,7 +1,6 @@
 ghost use Rattle.std.specs.Prelude.{◌≡◌, ◌++◌, ◌∷◌, ◌↔◌, ◌≤◌, IfSome, IsSome, IsTrue, length, replicate, slice_index, take};
-ghost use Rattle.base_fields.specs.Numbers.{IsBetween};
 ghost use Rattle.journal_format.specs.JobFields.{fields_of};
-ghost use Rattle.journal_format.specs.Journals.{HasVersion, IsHeld, fields_in, window_of};
+ghost use Rattle.journal_format.specs.Journals.{HasVersion, IsHeld, IsWindow, fields_in, window_of};
 
 use crate::JobId;
 
@@ -66,7 +65,7 @@ fn window_in(head: &[u8; 80]) -> Option<u32>
 
 /// The window that a byte says, where it is one.
 fn window_from(byte: u8) -> Option<u32>
-    ensures between { IsSome result ↔ IsBetween 1 16 byte }
+    ensures between { IsSome result ↔ IsWindow byte }
     ensures same { IfSome result (λ window. window ≡ byte) }
 {
     if 0 < byte && byte <= 16 {
