@@ -1,2 +1,3 @@
 -- lemmas
+pub mod AllTerms
 pub mod Multiples

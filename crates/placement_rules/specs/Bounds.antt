@@ -80,4 +80,4 @@ place_fault t p =
 pub record IsTooLong (t : Terms) (fault : PartFault) : Type 0 where
   pub filled : IsTrue (is_filled t)
   pub long : most_bytes < t.len
-  pub fault : fault ≡ TooFar t.len most_bytes
+  pub said : fault ≡ TooFar t.len most_bytes

@@ -1,5 +1,5 @@
 //! What refuses a partition by its own numbers.
-ghost use Rattle.std.specs.Prelude.{◌≡◌, ◌+◌, ◌<◌, ◌≤◌, ◌^◌, OnOk, IfErr, Some, None, option_map};
+ghost use Rattle.std.specs.Prelude.{◌≡◌, ◌+◌, ◌<◌, ◌≤◌, ◌^◌, [], OnOk, IfErr, option_map};
 ghost use Rattle.placement_rules.specs.Bounds.{IsFrame, IsRoundable, IsTerms, IsTooLong, Passes, place_fault};
 ghost use Rattle.placement_rules.specs.Faults.{above, bad_autoresize, bad_holes, below, least_size, misaligned, no_size, off_multiple, too_far, too_large};
 ghost use Rattle.placement_rules.specs.declared.faults.PartFault.TheVariants as fault;

@@ -12,6 +12,6 @@ mod terms;
 
 pub use faults::{Meeting, PartFault, PlaceFault};
 pub use frames::frame_of;
-pub use listing::terms;
+pub use listing::terms_of;
 pub use standing::stand;
 pub use terms::{Frame, Place, Terms};

@@ -1,10 +1,10 @@
 //! What the rules look at of each partition of an image.
-ghost use Rattle.std.specs.Prelude.{◌≡◌, ◌≤◌, ◌<◌, ◌∷◌, ◌++◌, [], IsTrue, IfOk, List as list_of, length};
-ghost use Rattle.conf_keys.specs.declared.conf.PartitionSection.{PartitionSection as section};
+ghost use Rattle.std.specs.Prelude.{◌≡◌, ◌^◌, ◌<◌, ◌≤◌, ◌∷◌, [], IsTrue, IfOk, length};
+ghost use Rattle.conf_keys.specs.Within.{IsImageWithin};
 ghost use Rattle.image_specs.specs.IsSpec.{IsSpec};
 ghost use Rattle.placement_rules.specs.Bounds.{AreTerms, is_placed};
-ghost use Rattle.placement_rules.specs.Counts.{AreCounts};
-ghost use Rattle.placement_rules.specs.Terms.{align_of, default_align, file_terms, holes_of, in_table, in_tables, is_nil, is_typed, names_of, primaries, terms, terms_from, terms_of};
+ghost use Rattle.placement_rules.specs.Counts.{AreCountsBehind, IsTermsBehind, primaries_of};
+ghost use Rattle.placement_rules.specs.Terms.{align_of, default_align, file_terms, holes_of, in_table, in_tables, is_typed, names_of, primaries, terms, terms_from};
 
 use crate::Terms;
 use crate::frames::has_table;
@@ -75,9 +75,9 @@ fn count_tabled(table: TableKind, parts: &[PartitionSection]) -> usize
 
 /// With one partition more.
 fn counted(table: TableKind, before: Counts, part: &PartitionSection) -> Counts
-    requires { before.tabled + 1 < 2 ^ 64 }
-    requires { before.typed + 1 < 2 ^ 64 }
-    ensures { (parts : list_of section) → AreCounts table parts before → AreCounts table (parts ++ part.now ∷ []) result }
+    requires tabled { before.tabled < 2 ^ 32 }
+    requires typed { before.typed < 2 ^ 32 }
+    ensures { AreCountsBehind table part.now before result }
 {
     Counts {
         tabled: before.tabled + usize::from(in_table(table, part)),
@@ -85,19 +85,23 @@ fn counted(table: TableKind, before: Counts, part: &PartitionSection) -> Counts
     }
 }
 
-/// What the rules look at of a partition behind as many as `before` says, where `primaries` of the table are primary.
-fn terms_of(
-    hd: &HdKeys,
+/// What the rules look at of a partition behind as many as `before` says, where `primary` of the table are primary.
+fn part_terms(
+    spec: &ImageSpec,
     part: &PartitionSection,
     before: Counts,
-    primaries: usize,
+    primary: usize,
     len: u64,
     last: bool,
-) -> Terms {
+) -> Terms
+    requires primary { primary ≡ primaries_of spec.now }
+    ensures { IsTermsBehind spec.now part.now before last len result }
+{
+    let hd = &spec.keys.hd;
     let table = hd.partition_table_type;
     let tabled = in_table(table, part);
-    let is_mbr = matches!(table, TableKind::Mbr) && tabled;
-    let is_hybrid = matches!(table, TableKind::Hybrid) && is_typed(table, part);
+    let in_mbr = matches!(table, TableKind::Mbr) && tabled;
+    let in_hybrid = matches!(table, TableKind::Hybrid) && is_typed(table, part);
     Terms {
         offset: part.offset,
         size: part.size,
@@ -105,8 +109,8 @@ fn terms_of(
         len,
         autoresize: part.autoresize,
         tabled,
-        logical: is_mbr && primaries <= before.tabled,
-        narrow: is_mbr || (is_hybrid && before.typed < 3),
+        logical: in_mbr && primary <= before.tabled,
+        narrow: in_mbr || (in_hybrid && before.typed < 3),
         last,
     }
 }
@@ -129,14 +133,18 @@ fn file_terms(alloc: Global, len: u64) -> Result<List<Terms>, NoMemory>
     Ok(terms)
 }
 
-fn part_terms(alloc: Global, spec: &ImageSpec, lens: &[u64]) -> Result<List<Terms>, NoMemory>
+fn all_terms(alloc: Global, spec: &ImageSpec, lens: &[u64]) -> Result<List<Terms>, NoMemory>
+    requires within { IsImageWithin spec.now.keys }
+    requires few { length spec.now.keys.parts ≤ 256 }
     requires lens { length lens.now ≡ length spec.now.keys.parts }
-    ensures { IfOk result (λ ts. ts ≡ terms_from spec.now spec.now.keys.hd.partition_table_type [] spec.now.keys.parts lens.now) }
+    ensures terms { IfOk result (λ ts. ts ≡ terms_from spec.now spec.now.keys.hd.partition_table_type [] spec.now.keys.parts lens.now) }
+    ensures within { IfOk result AreTerms }
+    ensures count { IfOk result (λ ts. length ts ≡ length spec.now.keys.parts) }
 {
     let hd = &spec.keys.hd;
     let table = hd.partition_table_type;
     let parts = spec.keys.parts.as_slice();
-    let primaries = primaries(hd.extended_partition, count_tabled(table, parts));
+    let primary = primaries(hd.extended_partition, count_tabled(table, parts));
     let mut before = Counts {
         tabled: 0,
         typed: 0,
@@ -144,7 +152,7 @@ fn part_terms(alloc: Global, spec: &ImageSpec, lens: &[u64]) -> Result<List<Term
     let mut terms = List::new(alloc);
     for (k, part) in parts.iter().enumerate() {
         let last = k + 1 == parts.len();
-        terms.push(terms_of(hd, part, before, primaries, lens[k], last))?;
+        terms.push(part_terms(spec, part, before, primary, lens[k], last))?;
         before = counted(table, before, part);
     }
     Ok(terms)
@@ -152,7 +160,7 @@ fn part_terms(alloc: Global, spec: &ImageSpec, lens: &[u64]) -> Result<List<Term
 
 /// What the rules look at of each partition, in order, by the lengths of their files, 0 where a partition has none. An image
 /// of kind `Plain` has one part. Takes memory.
-pub fn terms(alloc: Global, spec: &ImageSpec, lens: &[u64]) -> Result<List<Terms>, NoMemory>
+pub fn terms_of(alloc: Global, spec: &ImageSpec, lens: &[u64]) -> Result<List<Terms>, NoMemory>
     requires spec { IsSpec spec.now }
     requires kind { IsTrue (is_placed spec.now.kind) }
     requires lens { length lens.now ≡ length spec.now.sources }
@@ -162,7 +170,7 @@ pub fn terms(alloc: Global, spec: &ImageSpec, lens: &[u64]) -> Result<List<Terms
     ensures holes { IfOk result (λ ts. length ts ≡ length (holes_of spec.now)) }
 {
     match spec.kind {
-        Kind::Hd => part_terms(alloc, spec, lens),
+        Kind::Hd => all_terms(alloc, spec, lens),
         _ => file_terms(alloc, lens[0]),
     }
 }

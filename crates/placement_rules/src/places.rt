@@ -20,7 +20,7 @@ fn backup_len(frame: &Frame) -> u64
 }
 
 /// The least multiple of `to` that isn't below `n`.
-#[tactic(auto, using(base_fields::proofs::Rounding::round_fits, placement_rules::proofs::Multiples::rounded))]
+#[tactic(auto, using(base_fields::proofs::Rounding::round_fits, crate::proofs::Multiples::rounded))]
 fn least_multiple(to: u64, n: u64) -> u64
     requires to { 1 ≤ to }
     requires fits { n + to ≤ 2 ^ 64 }
