@@ -1,0 +1,3 @@
+-- definitions that contracts cite
+pub mod Layouts
+pub mod Said
