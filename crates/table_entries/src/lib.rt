@@ -8,7 +8,3 @@ mod mbr_entries;
 pub use gpt_entries::gpt_entry;
 pub use identifiers::disk_guid;
 pub use mbr_entries::{logical_spec, mbr_entry};
-//! The entries of partition tables.
-#![tactic(auto)]
-
-pub use mbr_table::MbrEntry;
