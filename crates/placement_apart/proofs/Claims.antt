@@ -23,7 +23,8 @@ same_bool false true f g = g refl
 same_bool false false f g = refl
 
 pub in_run_true : (at len o : ℕ) → at ≤ o → o < at + len → in_run at len o ≡ true
-in_run_true at len o low high = and_from (nat_le at o) (nat_lt o (at + len)) (le-leb at o low) (lt-ltb o (at + len) high)
+in_run_true at len o low high =
+    and_from (nat_le at o) (nat_lt o (at + len)) (le-leb at o low) (lt-ltb o (at + len) high)
 
 pub in_run_is : (at len o : ℕ) → in_run at len o ≡ true → (at ≤ o) × (o < at + len)
 in_run_is at len o h =
@@ -47,12 +48,14 @@ hole_run from to x h =
     in_run_true from (to - from) x low (omega arith)
 
 hole_same : (hole : Hole) (x : ℕ) → has (hole_span hole) x ≡ in_hole x hole
-hole_same hole x = same_bool (has (hole_span hole) x) (in_hole x hole) (run_hole hole.from hole.to x) (hole_run hole.from hole.to x)
+hole_same hole x =
+    same_bool (has (hole_span hole) x) (in_hole x hole) (run_hole hole.from hole.to x) (hole_run hole.from hole.to x)
 
 covers_same : (holes : List Hole) (x : ℕ) → covers (map hole_span holes) x ≡ list_any (in_hole x) holes
 covers_same [] x = refl
 covers_same (hole ∷ holes) x =
-    ap (λ (b : Bool). b || covers (map hole_span holes) x) (hole_same hole x) ∙ ap (λ (b : Bool). in_hole x hole || b) (covers_same holes x)
+    ap (λ (b : Bool). b || covers (map hole_span holes) x) (hole_same hole x)
+    ∙ ap (λ (b : Bool). in_hole x hole || b) (covers_same holes x)
 
 -- a partition of the layout claims what it claims by the rules
 pub claim_is : (name : List ℕ) (source : Option (List ℕ)) (whole : Bool) (s : Stood) (o : ℕ) → is_claimed (placed_of name source whole s) o ≡ claims s o
@@ -72,7 +75,8 @@ in_record_of head at o is h = ap (λ (r : Option ℕ). in_record r o) is ∙ h
 
 pub record_occupied : (s : Stood) (o : ℕ) → IsHead s → record_at s ≤ o → o < record_at s + 512 → occupies s o ≡ true
 record_occupied s o head low high =
-    or_right (claims s o) (in_record s.place.head o) (in_record_of s.place.head (record_at s) o head.there (in_run_true (record_at s) 512 o low high))
+    or_right (claims s o) (in_record s.place.head o)
+    (in_record_of s.place.head (record_at s) o head.there (in_run_true (record_at s) 512 o low high))
 
 -- ---- a partition against a test
 
@@ -120,7 +124,9 @@ pairs_rest R x xs pairs i j d order inside = pairs (suc i) (suc j) d (omega arit
 
 -- one more in front of each
 clean_more : (s : Stood) (ss all : List Stood) → All (λ r. IsClean r s) ss → All (λ r. All (IsClean r) all) ss → All (λ r. All (IsClean r) (s ∷ all)) ss
-clean_more s ss all first rest = all_both (λ r. IsClean r s) (λ r. All (IsClean r) all) (λ r. All (IsClean r) (s ∷ all)) (λ r a b. All-cons (IsClean r) s all a b) ss first rest
+clean_more s ss all first rest =
+    all_both (λ r. IsClean r s) (λ r. All (IsClean r) all) (λ r. All (IsClean r) (s ∷ all))
+    (λ r a b. All-cons (IsClean r) s all a b) ss first rest
 
 pub all_clean : (t : TableKind) (z entries_at : ℕ) (ss : List Stood) → All (IsSound t z entries_at) ss → AllPairs Passes ss → All (λ s. All (IsClean s) ss) ss
 all_clean t z entries_at [] are pairs = All-nil (λ s. All (IsClean s) [])
@@ -129,8 +135,10 @@ all_clean t z entries_at (s ∷ ss) are pairs =
     let here : P s = All-head P s ss are in
     let others : All P ss = All-tail P s ss are in
     let passes : All (Passes s) ss = pairs_first Passes s ss pairs in
-    let later : All (IsClean s) ss = all_both P (Passes s) (IsClean s) (λ r is p. clean_later t z entries_at s r is p) ss others passes in
-    let earlier : All (λ r. IsClean r s) ss = all_both P (Passes s) (λ r. IsClean r s) (λ r is p. clean_earlier t z entries_at s r here p) ss others passes in
+    let later : All (IsClean s) ss =
+    all_both P (Passes s) (IsClean s) (λ r is p. clean_later t z entries_at s r is p) ss others passes in
+    let earlier : All (λ r. IsClean r s) ss =
+    all_both P (Passes s) (λ r. IsClean r s) (λ r is p. clean_earlier t z entries_at s r here p) ss others passes in
     All-cons (λ r. All (IsClean r) (s ∷ ss)) s ss
     (All-cons (IsClean s) s ss (clean_self t z entries_at s here) later)
     (clean_more s ss ss earlier (all_clean t z entries_at ss others (pairs_rest Passes s ss pairs)))

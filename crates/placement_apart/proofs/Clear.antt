@@ -31,7 +31,8 @@ Passes earlier s = meets s (occupies earlier) ≡ false
 -- no offset below its reach that a partition occupies passes a test that it doesn't meet
 pub meets_none : (s : Stood) (test : ℕ → Bool) (o : ℕ) → meets s test ≡ false → o < reach s → occupies s o ≡ true → test o ≡ true → ⊥
 meets_none s test o h below occupied passes =
-    both_ways (occupies s o && test o) (none_below (reach s) (λ x. occupies s x && test x) o h below) (and_from (occupies s o) (test o) occupied passes)
+    both_ways (occupies s o && test o) (none_below (reach s) (λ x. occupies s x && test x) o h below)
+    (and_from (occupies s o) (test o) occupied passes)
 
 -- ---- one partition
 
@@ -70,16 +71,23 @@ passed : (frame : Frame) (before : List Stood) (s : Stood) → part_fault frame 
 passed frame before s h =
     let all = or_none (own_fault frame s) (overlap frame before s) h in
     let none : met frame before s ≡ None = map_none (λ m. fault.Meets m) (met frame before s) all.1 in
-    let first = or_none (met_mbr frame s) (option_or (met_header frame s) (option_or (met_entries frame s) (option_or (met_front frame s) (met_earlier before s)))) none in
-    let second = or_none (met_header frame s) (option_or (met_entries frame s) (option_or (met_front frame s) (met_earlier before s))) first.1 in
+    let first =
+    or_none (met_mbr frame s)
+    (option_or (met_header frame s)
+    (option_or (met_entries frame s) (option_or (met_front frame s) (met_earlier before s)))) none in
+    let second =
+    or_none (met_header frame s)
+    (option_or (met_entries frame s) (option_or (met_front frame s) (met_earlier before s))) first.1 in
     let third = or_none (met_entries frame s) (option_or (met_front frame s) (met_earlier before s)) second.1 in
     let fourth = or_none (met_front frame s) (met_earlier before s) third.1 in
     record {
       clear = record {
         own = all.0;
         mbr = provided_none (has_table frame.table && meets s (in_run 440 72)) meeting.Mbr first.0;
-        header = provided_none (has_guid frame.table && meets s (in_run frame.sector frame.sector)) meeting.Header second.0;
-        entries = provided_none (has_guid frame.table && meets s (in_run frame.entries_at entries_len)) meeting.Entries third.0;
+        header = provided_none
+            (has_guid frame.table && meets s (in_run frame.sector frame.sector)) meeting.Header second.0;
+        entries = provided_none
+            (has_guid frame.table && meets s (in_run frame.entries_at entries_len)) meeting.Entries third.0;
       };
       passes = clash_none s before (map_none (λ k. meeting.Earlier k) (first_clash s before) fourth.1);
     }
@@ -94,7 +102,8 @@ record ArePassed (frame : Frame) (before ss : List Stood) : Type 0 where
 
 -- each of those before passes one more and the rest
 more_behind : (before : List Stood) (s : Stood) (rest : List Stood) → All (λ e. Passes e s) before → All (λ e. All (Passes e) rest) before → All (λ e. All (Passes e) (s ∷ rest)) before
-more_behind before s rest first others k d inside = All-cons (Passes (slice_index_or before k d)) s rest (first k d inside) (others k d inside)
+more_behind before s rest first others k d inside =
+    All-cons (Passes (slice_index_or before k d)) s rest (first k d inside) (others k d inside)
 
 all_passed : (frame : Frame) (before ss : List Stood) → first_fault frame before ss ≡ None → ArePassed frame before ss
 all_passed frame before [] h = record {
@@ -103,8 +112,11 @@ all_passed frame before [] h = record {
   among = λ i j d order inside. absurd (omega arith);
 }
 all_passed frame before (s ∷ rest) h =
-    let parts = or_none {A = ℕ × PartFault} (option_map (λ (f : PartFault). (length before, f)) (part_fault frame before s)) (first_fault frame (before ++ s ∷ []) rest) h in
-    let this : IsPassed frame before s = passed frame before s (map_none (λ (f : PartFault). (length before, f)) (part_fault frame before s) parts.0) in
+    let parts =
+    or_none {A = ℕ × PartFault} (option_map (λ (f : PartFault). (length before, f)) (part_fault frame before s))
+    (first_fault frame (before ++ s ∷ []) rest) h in
+    let this : IsPassed frame before s =
+    passed frame before s (map_none (λ (f : PartFault). (length before, f)) (part_fault frame before s) parts.0) in
     let others : ArePassed frame (before ++ s ∷ []) rest = all_passed frame (before ++ s ∷ []) rest parts.1 in
     let P : Stood → Type 0 = λ e. All (Passes e) rest in
     record {

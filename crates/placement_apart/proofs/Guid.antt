@@ -73,7 +73,8 @@ guid_at spec frame ss is sized guid =
     let whole : size / frame.sector * frame.sector ≡ size = sized.whole (has_both frame.table guid) in
     let behind : frame.entries_at + 16384 ≤ frame.front = is.behind guid in
     let backed : frame.backup ≡ true → end + (frame.sector + 16384) ≤ size =
-    λ b. let len : backup_len frame ≡ frame.sector + 16384 = with_backup frame.backup (frame.sector + 16384) b in omega arith in
+    λ b. let len : backup_len frame ≡ frame.sector + 16384 = with_backup frame.backup
+    (frame.sector + 16384) b in omega arith in
     record {
       low = sector_low frame.sector is.sector;
       entries = sized.entries guid;
@@ -126,7 +127,8 @@ guid_in_order m g entries_at end size is =
     )
 
 pub guid_apart : (m : MbrSpec) (g : GptSpec) (entries_at end size : ℕ) → IsAt g entries_at end size → AreApart (mbr_parts m ++ gpt_parts g)
-guid_apart m g entries_at end size is = in_order_apart (mbr_parts m ++ gpt_parts g) 0 (guid_in_order m g entries_at end size is)
+guid_apart m g entries_at end size is =
+    in_order_apart (mbr_parts m ++ gpt_parts g) 0 (guid_in_order m g entries_at end size is)
 
 -- what holds of the place and the length of each part, by those of the five
 pub guid_all : (Q : ℕ → ℕ → Type 0) (m : MbrSpec) (g : GptSpec) → Q 440 72 → Q g.sector g.sector → Q (g.entries_at * g.sector) 16384 → (g.backup ≡ true → Q (back_entries_at g * g.sector) 16384 × Q (last_sector g * g.sector) g.sector) → All (AtPlace Q) (mbr_parts m ++ gpt_parts g)

@@ -42,13 +42,16 @@ known spec frame ss is stands before none behind = record {
 
 across : (spec : ImageSpec) (frame : Frame) (ss : List Stood) → IsKnown frame ss → All (λ (p : Placed). (o : ℕ) → IsTrue (is_claimed p o) → table_byte (layout_in spec frame ss) o ≡ None) (layout_in spec frame ss).parts
 across spec frame ss known =
-    let clean : All (λ s. All (IsClean s) ss) ss = all_clean frame.table frame.sector frame.entries_at ss known.sound known.passes in
+    let clean : All (λ s. All (IsClean s) ss) ss =
+    all_clean frame.table frame.sector frame.entries_at ss known.sound known.passes in
     parts_all (λ (p : Placed). (o : ℕ) → IsTrue (is_claimed p o) → table_byte (layout_in spec frame ss) o ≡ None)
     (names_of spec) spec.sources (wholes_as spec.kind spec.keys.parts) ss
     (λ k d inside name source whole o claimed.
     let s : Stood = slice_index_or ss k d in
-    let one : IsOne frame ss s = record { sound = known.sound k d inside; clean = clean k d inside; ends = known.sized.ends k d inside } in
-    part_byte-none _ o (tables_missed frame.table spec frame ss s o refl known one (claimed_by name source whole s o claimed)))
+    let one : IsOne frame ss s =
+    record { sound = known.sound k d inside; clean = clean k d inside; ends = known.sized.ends k d inside } in
+    part_byte-none _ o
+    (tables_missed frame.table spec frame ss s o refl known one (claimed_by name source whole s o claimed)))
 
 apart : (spec : ImageSpec) (frame : Frame) (ss : List Stood) → IsKnown frame ss → LiesApart (layout_in spec frame ss)
 apart spec frame ss known = record {
@@ -83,12 +86,15 @@ pub placed_lies_apart : PlacedLiesApart
 placed_lies_apart spec lens is lengths none =
     let frame : Frame = frame_of spec in
     let ss : List Stood = stood spec lens in
-    let first = or_none (image_first spec frame) (option_or (partition_fault spec frame ss) (image_last spec frame ss)) none in
+    let first =
+    or_none (image_first spec frame) (option_or (partition_fault spec frame ss) (image_last spec frame ss)) none in
     let second = or_none (partition_fault spec frame ss) (image_last spec frame ss) first.1 in
     let faultless : first_fault frame [] ss ≡ None =
-    map_none (λ (found : ℕ × PartFault). named (names_of spec) (name_at (names_of spec) found.0) found.1) (first_fault frame [] ss) second.0 in
+    map_none (λ (found : ℕ × PartFault). named (names_of spec) (name_at (names_of spec) found.0) found.1)
+    (first_fault frame [] ss) second.0 in
     let framed : IsFrame frame.table frame.sector frame.front frame.entries_at = frame_is spec is.within.hd in
-    let stands : All (IsStanding frame) ss = stand_all spec.kind spec frame lens refl is.within.hd.align is.within.parts in
+    let stands : All (IsStanding frame) ss =
+    stand_all spec.kind spec frame lens refl is.within.hd.align is.within.parts in
     let all : IsKnown frame ss = known spec frame ss framed stands first.0 faultless second.1 in
     spread spec frame ss all
     (source_all spec.kind spec frame spec.sources lens lengths)

@@ -1,4 +1,5 @@
--- What holds of a partition without a fault of its own that stands where the rules put it: its file, its holes and its record.
+-- What holds of a partition without a fault of its own that stands where the rules put it: its file, its holes and
+-- its record.
 use Rattle.std.specs.Prelude.{◌≡◌, ℕ, suc, zero, ◌+◌, ◌-◌, ◌*◌, ◌/◌, ◌%◌, ◌^◌, ◌<◌, ◌≤◌, List, [], ◌∷◌, All, AllPairs, Bool, true, false, not, ◌&&◌, ◌==◌, nat_le, nat_lt, Option, None, Some, length, map, option_map, unwrap_or, if◌then◌else◌}
 use Rattle.std.specs.Option.{option_or}
 use Rattle.std.proofs.Common.{refl, ◌∙◌, sym, ap, arith}
@@ -45,10 +46,12 @@ abbrev offset_below : Terms → Option PartFault
 offset_below t = option_map (λ n. fault.Misaligned n t.align) (where_so t.logical (below t.offset t.align))
 
 abbrev align_off : Frame → Terms → Option PartFault
-align_off frame t = option_map (λ n. fault.Misaligned n frame.sector) (where_so t.tabled (off_multiple (Some t.align) frame.sector))
+align_off frame t =
+    option_map (λ n. fault.Misaligned n frame.sector) (where_so t.tabled (off_multiple (Some t.align) frame.sector))
 
 abbrev size_off : Frame → Terms → Option PartFault
-size_off frame t = option_map (λ n. fault.Misaligned n frame.sector) (where_so t.tabled (off_multiple t.size frame.sector))
+size_off frame t =
+    option_map (λ n. fault.Misaligned n frame.sector) (where_so t.tabled (off_multiple t.size frame.sector))
 
 record IsAligned (z : ℕ) (t : Terms) : Type 0 where
   offset : off_multiple t.offset t.align ≡ None
@@ -57,7 +60,8 @@ record IsAligned (z : ℕ) (t : Terms) : Type 0 where
 
 aligned : (frame : Frame) (t : Terms) → misaligned frame t ≡ None → IsAligned frame.sector t
 aligned frame t h =
-    let first = or_none (offset_off t) (option_or (offset_below t) (option_or (align_off frame t) (size_off frame t))) h in
+    let first =
+    or_none (offset_off t) (option_or (offset_below t) (option_or (align_off frame t) (size_off frame t))) h in
     let second = or_none (offset_below t) (option_or (align_off frame t) (size_off frame t)) first.1 in
     let third = or_none (align_off frame t) (size_off frame t) second.1 in
     record {
@@ -65,7 +69,8 @@ aligned frame t h =
       above = λ is. where_none t.logical (below t.offset t.align) is
           (map_none (λ (n : ℕ). fault.Misaligned n t.align) (where_so t.logical (below t.offset t.align)) second.0);
       whole = λ is. off_none t.align frame.sector (where_none t.tabled (off_multiple (Some t.align) frame.sector) is
-          (map_none (λ (n : ℕ). fault.Misaligned n frame.sector) (where_so t.tabled (off_multiple (Some t.align) frame.sector)) third.0));
+          (map_none (λ (n : ℕ). fault.Misaligned n frame.sector)
+          (where_so t.tabled (off_multiple (Some t.align) frame.sector)) third.0));
     }
 
 -- ---- the place of a logical partition
@@ -132,7 +137,8 @@ is_head frame s high place is low fits whole =
     let behind : IsBehind at t.align = logical_at t.offset t.align high t.logical is low fits.offset (fits.above is) in
     let facts : IsWhole at t.align = whole_behind at t.align behind whole low in
     let here : s.place.at ≡ at = ap (λ (p : Place). p.at) place in
-    let head : s.place.head ≡ Some (at - t.align) = ap (λ (p : Place). p.head) place ∙ chosen_head t.logical (at - t.align) is in
+    let head : s.place.head ≡ Some (at - t.align) =
+    ap (λ (p : Place). p.head) place ∙ chosen_head t.logical (at - t.align) is in
     let ahead : at - t.align + 512 ≤ at = facts.behind in
     head_there s (at - t.align) head facts.sectors (omega arith)
 
@@ -162,9 +168,11 @@ good_holes from k (hole ∷ holes) h =
     record {
       filled = All-cons (λ span. 0 < span.len) (hole_span hole) (map hole_span holes) (omega arith) rest.filled;
       above = All-cons (λ span. from ≤ span.at) (hole_span hole) (map hole_span holes) behind
-          (All-weaker (λ span. hole.to ≤ span.at) (λ span. from ≤ span.at) (λ span later. omega arith) (map hole_span holes) rest.above);
+          (All-weaker (λ span. hole.to ≤ span.at) (λ span. from ≤ span.at) (λ span later. omega arith)
+          (map hole_span holes) rest.above);
       ascend = AllPairs-cons (λ span later. span.at + span.len ≤ later.at) (hole_span hole) (map hole_span holes)
-          (All-weaker (λ span. hole.to ≤ span.at) (λ later. hole.from + (hole.to - hole.from) ≤ later.at) (λ span later. omega arith) (map hole_span holes) rest.above)
+          (All-weaker (λ span. hole.to ≤ span.at) (λ later. hole.from + (hole.to - hole.from) ≤ later.at)
+          (λ span later. omega arith) (map hole_span holes) rest.above)
           rest.ascend;
     }
 
@@ -173,9 +181,11 @@ bounded_hole hole within = let low = within.0 in let high = within.1 in omega ar
 
 are_holes : (holes : List Hole) → bad_holes holes ≡ None → AreFewHoles holes → AreHoles (map hole_span holes)
 are_holes holes h few =
-    let good : AreGood 0 (map hole_span holes) = good_holes 0 0 holes (map_none (λ (k : ℕ). fault.BadHoles k) (bad_hole 0 0 holes) h) in
+    let good : AreGood 0 (map hole_span holes) =
+    good_holes 0 0 holes (map_none (λ (k : ℕ). fault.BadHoles k) (bad_hole 0 0 holes) h) in
     record {
-      few = let same : length (map hole_span holes) ≡ length holes = length-map holes hole_span in let most = few.few in omega arith;
+      few = let same : length
+          (map hole_span holes) ≡ length holes = length-map holes hole_span in let most = few.few in omega arith;
       filled = good.filled;
       ascend = good.ascend;
       bounded = All-map (λ span. span.at + span.len ≤ 2 ^ 43) hole_span holes
@@ -215,7 +225,8 @@ sound frame s narrow stands clear =
     let fourth = or_none (too_large s.terms s.place.size) (late s) third.1 in
     let fits : IsAligned frame.sector s.terms = aligned frame s.terms first.0 in
     record {
-      fits = ltb-false s.place.size s.terms.len (provided_none (nat_lt s.place.size s.terms.len) (fault.FileTooLarge s.terms.len s.place.size) fourth.0);
+      fits = ltb-false s.place.size s.terms.len
+          (provided_none (nat_lt s.place.size s.terms.len) (fault.FileTooLarge s.terms.len s.place.size) fourth.0);
       holes = are_holes s.holes second.0 stands.holes;
       head = λ is.
           let sector : frame.sector ≡ 512 = narrow (stands.terms.narrow is) in

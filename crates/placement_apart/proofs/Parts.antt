@@ -23,7 +23,8 @@ parts_all P (name ∷ names) [] wholes ss all = All-nil P
 parts_all P (name ∷ names) (source ∷ sources) [] ss all = All-nil P
 parts_all P (name ∷ names) (source ∷ sources) (whole ∷ wholes) [] all = All-nil P
 parts_all P (name ∷ names) (source ∷ sources) (whole ∷ wholes) (s ∷ ss) all =
-    let Q : Stood → Type 0 = λ s. (name : List ℕ) (source : Option (List ℕ)) (whole : Bool) → P (placed_of name source whole s) in
+    let Q : Stood → Type 0 =
+    λ s. (name : List ℕ) (source : Option (List ℕ)) (whole : Bool) → P (placed_of name source whole s) in
     All-cons P (placed_of name source.file whole s) (parts_from names sources wholes ss)
     (All-head Q s ss all name source.file whole)
     (parts_all P names sources wholes ss (All-tail Q s ss all))
@@ -42,7 +43,8 @@ pub parts_are : (t : TableKind) (z entries_at size : ℕ) (names : List (List �
 parts_are t z entries_at size [] sources wholes ss are ends sourced = All-nil (IsPart size)
 parts_are t z entries_at size (name ∷ names) [] wholes ss are ends sourced = All-nil (IsPart size)
 parts_are t z entries_at size (name ∷ names) (source ∷ sources) [] ss are ends sourced = All-nil (IsPart size)
-parts_are t z entries_at size (name ∷ names) (source ∷ sources) (whole ∷ wholes) [] are ends sourced = All-nil (IsPart size)
+parts_are t z entries_at size (name ∷ names) (source ∷ sources) (whole ∷ wholes) [] are ends sourced =
+    All-nil (IsPart size)
 parts_are t z entries_at size (name ∷ names) (source ∷ sources) (whole ∷ wholes) (s ∷ ss) are ends sourced =
     let P : Stood → Type 0 = IsSound t z entries_at in
     let E : Stood → Type 0 = λ s. end_of s ≤ size in
@@ -58,7 +60,8 @@ claimed_by name source whole s o h = sym (claim_is name source whole s o) ∙ h
 
 claim_apart : (name other : List ℕ) (source file : Option (List ℕ)) (whole all : Bool) (s r : Stood) → Passes s r → ClaimApart (placed_of name source whole s) (placed_of other file all r)
 claim_apart name other source file whole all s r passes o first second =
-    claim_misses r (occupies s) o passes (claimed_by other file all r o second) (claim_occupied s o (claimed_by name source whole s o first))
+    claim_misses r (occupies s) o passes (claimed_by other file all r o second)
+    (claim_occupied s o (claimed_by name source whole s o first))
 
 pub claims_apart : (names : List (List ℕ)) (sources : List Source) (wholes : List Bool) (ss : List Stood) → AllPairs Passes ss → AllPairs ClaimApart (parts_from names sources wholes ss)
 claims_apart [] sources wholes ss pairs = λ i j d order inside. absurd (omega arith)
@@ -69,8 +72,10 @@ claims_apart (name ∷ names) (source ∷ sources) (whole ∷ wholes) (s ∷ ss)
     let first : Placed = placed_of name source.file whole s in
     AllPairs-cons ClaimApart first (parts_from names sources wholes ss)
     (parts_all (ClaimApart first) names sources wholes ss
-    (All-weaker (Passes s) (λ r. (other : List ℕ) (file : Option (List ℕ)) (all : Bool) → ClaimApart first (placed_of other file all r))
-    (λ r passes other file all. claim_apart name other source.file file whole all s r passes) ss (pairs_first Passes s ss pairs)))
+    (All-weaker (Passes s)
+    (λ r. (other : List ℕ) (file : Option (List ℕ)) (all : Bool) → ClaimApart first (placed_of other file all r))
+    (λ r passes other file all. claim_apart name other source.file file whole all s r passes) ss
+    (pairs_first Passes s ss pairs)))
     (claims_apart names sources wholes ss (pairs_rest Passes s ss pairs))
 
 -- ---- how many

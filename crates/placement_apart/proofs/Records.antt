@@ -64,5 +64,6 @@ records_apart t z entries_at start (part ∷ parts) (s ∷ ss) are pairs =
     (λ logical.
     let head : IsHead s = (All-head P s ss are).head logical in
     records_all (Clears (record_at s)) start parts ss
-    (all_both P (Passes s) Q (λ r is passes. record_clears t z entries_at s r head is passes) ss others (pairs_first Passes s ss pairs)))
+    (all_both P (Passes s) Q (λ r is passes. record_clears t z entries_at s r head is passes) ss others
+    (pairs_first Passes s ss pairs)))
     (records_apart t z entries_at start parts ss others (pairs_rest Passes s ss pairs))

@@ -1,4 +1,5 @@
--- The size of an image that isn't refused: its partitions and what stands in front end below its backup, and it is of whole sectors.
+-- The size of an image that isn't refused: its partitions and what stands in front end below its backup, and it is
+-- of whole sectors.
 use Rattle.std.specs.Prelude.{◌≡◌, ℕ, ◌+◌, ◌-◌, ◌*◌, ◌/◌, ◌%◌, ◌^◌, ◌<◌, ◌≤◌, ◌⊎◌, max, List, [], ◌∷◌, All, Bool, true, false, nat_lt, Option, None, Some, map, unwrap_or, if◌then◌else◌}
 use Rattle.std.specs.Option.{option_or}
 use Rattle.std.proofs.Common.{refl, ◌∙◌, sym, ap, arith, inl, inr}
@@ -51,13 +52,15 @@ greatest_full : (frame : Frame) (ss : List Stood) → 1 ≤ step_of frame → ma
 greatest_full frame ss low = above_least (max frame.front (greatest (map end_of ss))) (step_of frame) low
 
 front_full : (frame : Frame) (ss : List Stood) → 1 ≤ step_of frame → frame.front ≤ full frame ss
-front_full frame ss low = let all : max frame.front (greatest (map end_of ss)) ≤ full frame ss = greatest_full frame ss low in omega arith
+front_full frame ss low =
+    let all : max frame.front (greatest (map end_of ss)) ≤ full frame ss = greatest_full frame ss low in omega arith
 
 ends_full : (frame : Frame) (ss : List Stood) → 1 ≤ step_of frame → All (λ s. end_of s ≤ full frame ss) ss
 ends_full frame ss low =
     let all : max frame.front (greatest (map end_of ss)) ≤ full frame ss = greatest_full frame ss low in
     let below : greatest (map end_of ss) ≤ full frame ss = omega arith in
-    All-weaker (λ s. end_of s ≤ greatest (map end_of ss)) (λ s. end_of s ≤ full frame ss) (λ s h. omega arith) ss (ends_below ss)
+    All-weaker (λ s. end_of s ≤ greatest (map end_of ss)) (λ s. end_of s ≤ full frame ss) (λ s h. omega arith) ss
+    (ends_below ss)
 
 -- ---- whole sectors
 
@@ -79,7 +82,8 @@ needs_whole : (frame : Frame) (ss : List Stood) → (frame.sector ≡ 512) ⊎ (
 needs_whole frame ss two is =
     let most : ℕ = greatest (frame.front ∷ map end_of ss) in
     let z : ℕ = frame.sector in
-    let same : full frame ss ≡ (most + (z - 1)) / z * z = ap (λ (n : ℕ). least_multiple n most) (step_true (has_table frame.table) z is) in
+    let same : full frame ss ≡ (most + (z - 1)) / z * z =
+    ap (λ (n : ℕ). least_multiple n most) (step_true (has_table frame.table) z is) in
     ap (λ (n : ℕ). (n + backup_len frame) / z * z) same
     ∙ backed_whole frame.backup ((most + (z - 1)) / z) z two
     ∙ ap (λ (n : ℕ). n + backup_len frame) (sym same)
@@ -92,14 +96,16 @@ size_whole (Some n) needs z off whole = whole_of n z (off_none n z off)
 
 needs_inside : (size : Option ℕ) (needs : ℕ) → too_small size needs ≡ None → needs ≤ unwrap_or size needs
 needs_inside None needs h = omega arith
-needs_inside (Some has) needs h = ltb-false has needs (provided_none (nat_lt has needs) (fault.ImageTooSmall has needs) h)
+needs_inside (Some has) needs h =
+    ltb-false has needs (provided_none (nat_lt has needs) (fault.ImageTooSmall has needs) h)
 
 size_small : (size : Option ℕ) (needs most : ℕ) → needs ≤ most → unwrap_or size 0 ≤ most → unwrap_or size needs ≤ most
 size_small None needs most low high = low
 size_small (Some n) needs most low high = high
 
 not_above : (spec : ImageSpec) (n : ℕ) → above_most spec n ≡ None → n ≤ most_bytes
-not_above spec n h = ltb-false most_bytes n (provided_none (nat_lt most_bytes n) (fault.TooFar spec.name n most_bytes) h)
+not_above spec n h =
+    ltb-false most_bytes n (provided_none (nat_lt most_bytes n) (fault.TooFar spec.name n most_bytes) h)
 
 pub has_both : (t : TableKind) → has_guid t ≡ true → has_table t ≡ true
 has_both table.Bare is = absurd (cc)
@@ -119,8 +125,12 @@ record AreMultiples (frame : Frame) : Type 0 where
 multiples : (spec : ImageSpec) (frame : Frame) → image_first spec frame ≡ None → has_table frame.table ≡ true → AreMultiples frame
 multiples spec frame h is =
     let both = or_none (too_many_entries spec frame) (image_misaligned spec frame) h in
-    let off : where_so (has_table frame.table) (numbers_off frame) ≡ None = map_none (λ (n : ℕ). fault.Misaligned spec.name n frame.sector) (where_so (has_table frame.table) (numbers_off frame)) both.1 in
-    let parts = or_none (off_multiple frame.size frame.sector) (off_multiple (Some frame.entries_at) frame.sector) (where_none (has_table frame.table) (numbers_off frame) is off) in
+    let off : where_so (has_table frame.table) (numbers_off frame) ≡ None =
+    map_none (λ (n : ℕ). fault.Misaligned spec.name n frame.sector)
+    (where_so (has_table frame.table) (numbers_off frame)) both.1 in
+    let parts =
+    or_none (off_multiple frame.size frame.sector) (off_multiple (Some frame.entries_at) frame.sector)
+    (where_none (has_table frame.table) (numbers_off frame) is off) in
     record { size = parts.0; entries = parts.1 }
 
 -- the size of an image of these partitions, in an image of this table
@@ -135,16 +145,23 @@ pub record IsSized (frame : Frame) (ss : List Stood) : Type 0 where
 pub is_sized : (spec : ImageSpec) (frame : Frame) (ss : List Stood) → (frame.sector ≡ 512) ⊎ (frame.sector ≡ 4096) → image_first spec frame ≡ None → image_last spec frame ss ≡ None → IsSized frame ss
 is_sized spec frame ss two before behind =
     let needs : ℕ = needs_of frame ss in
-    let first = or_none (extended_overlap spec ss) (option_or (above_most spec needs) (option_or (above_most spec (unwrap_or frame.size 0)) (too_small frame.size needs))) behind in
-    let second = or_none (above_most spec needs) (option_or (above_most spec (unwrap_or frame.size 0)) (too_small frame.size needs)) first.1 in
+    let first =
+    or_none (extended_overlap spec ss)
+    (option_or (above_most spec needs)
+    (option_or (above_most spec (unwrap_or frame.size 0)) (too_small frame.size needs))) behind in
+    let second =
+    or_none (above_most spec needs)
+    (option_or (above_most spec (unwrap_or frame.size 0)) (too_small frame.size needs)) first.1 in
     let third = or_none (above_most spec (unwrap_or frame.size 0)) (too_small frame.size needs) second.1 in
     let low : 1 ≤ step_of frame = step_least (has_table frame.table) frame.sector two in
     record {
-      small = size_small frame.size needs most_bytes (not_above spec needs second.0) (not_above spec (unwrap_or frame.size 0) third.0);
+      small = size_small frame.size needs most_bytes (not_above spec needs second.0)
+          (not_above spec (unwrap_or frame.size 0) third.0);
       needs = needs_inside frame.size needs third.1;
       front = front_full frame ss low;
       ends = ends_full frame ss low;
-      whole = λ is. size_whole frame.size needs frame.sector (multiples spec frame before is).size (needs_whole frame ss two is);
+      whole = λ is. size_whole frame.size needs frame.sector (multiples spec frame before is).size
+          (needs_whole frame ss two is);
       entries = λ is. whole_of frame.entries_at frame.sector
           (off_none frame.entries_at frame.sector (multiples spec frame before (has_both frame.table is)).entries);
     }

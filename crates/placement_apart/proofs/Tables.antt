@@ -69,7 +69,8 @@ start spec ss = start_of (logical_specs spec.keys.parts ss)
 -- no byte of the master boot record is in the record of a logical partition
 front_misses : (t : TableKind) (z entries_at : ℕ) (s : Stood) → has_table t ≡ true → IsSound t z entries_at s → s.terms.logical ≡ true → (o : ℕ) → (440 ≤ o) × (o < 440 + 72) → Misses o (record_at s) 512
 front_misses t z entries_at s has is logical o within second =
-    record_misses s (in_run 440 72) o (is.mbr has) (is.head logical) second.0 second.1 (in_run_true 440 72 o within.0 within.1)
+    record_misses s (in_run 440 72) o (is.mbr has) (is.head logical) second.0 second.1
+    (in_run_true 440 72 o within.0 within.1)
 
 chain_apart : (spec : ImageSpec) (frame : Frame) (ss : List Stood) → has_table frame.table ≡ true → IsKnown frame ss → AreApart ((mbr_parts (mbr_of spec ss) ++ chain_of spec ss) ++ [])
 chain_apart spec frame ss has known =
@@ -79,7 +80,9 @@ chain_apart spec frame ss has known =
     records_all Q (start spec ss) spec.keys.parts ss
     (All-weaker P (λ s. s.terms.logical ≡ true → Q (record_at s) 512)
     (λ s is logical. front_misses frame.table frame.sector frame.entries_at s has is logical) ss known.sound) in
-    let others : AreApart (chain_of spec ss) = records_apart frame.table frame.sector frame.entries_at (start spec ss) spec.keys.parts ss known.sound known.passes in
+    let others : AreApart (chain_of spec ss) =
+    records_apart frame.table frame.sector frame.entries_at
+    (start spec ss) spec.keys.parts ss known.sound known.passes in
     apart_both (record_of (mbr_of spec ss) ∷ chain_of spec ss) []
     (AllPairs-cons LieApart (record_of (mbr_of spec ss)) (chain_of spec ss) first others)
     none_apart
@@ -90,7 +93,8 @@ chain_all : (Q : ℕ → ℕ → Type 0) (spec : ImageSpec) (ss : List Stood) �
 chain_all Q spec ss first records =
     let P : Part → Type 0 = λ p. Q p.at p.len in
     All-append P (record_of (mbr_of spec ss) ∷ chain_of spec ss) []
-    (All-cons P (record_of (mbr_of spec ss)) (chain_of spec ss) first (records_all Q (start spec ss) spec.keys.parts ss records))
+    (All-cons P (record_of (mbr_of spec ss)) (chain_of spec ss) first
+    (records_all Q (start spec ss) spec.keys.parts ss records))
     (All-nil P)
 
 record_inside : (t : TableKind) (z entries_at end size : ℕ) (s : Stood) → end ≤ size → IsSound t z entries_at s → end_of s ≤ end → s.terms.logical ≡ true → record_at s + 512 ≤ size
@@ -98,7 +102,8 @@ record_inside t z entries_at end size s low is ends logical =
     let ahead : record_at s + 512 ≤ s.place.at = (is.head logical).ahead in omega arith
 
 end_inside : (frame : Frame) (ss : List Stood) → IsSized frame ss → full frame ss ≤ image_size frame ss
-end_inside frame ss sized = let needs : full frame ss + backup_len frame ≤ image_size frame ss = sized.needs in omega arith
+end_inside frame ss sized =
+    let needs : full frame ss + backup_len frame ≤ image_size frame ss = sized.needs in omega arith
 
 chain_inside : (spec : ImageSpec) (frame : Frame) (ss : List Stood) → has_table frame.table ≡ true → IsKnown frame ss → All (λ (p : Part). p.at + p.len ≤ image_size frame ss) ((mbr_parts (mbr_of spec ss) ++ chain_of spec ss) ++ [])
 chain_inside spec frame ss has known =
@@ -108,7 +113,8 @@ chain_inside spec frame ss has known =
     let low : 512 ≤ frame.front = known.frame_is.low has in
     let front : frame.front ≤ end = known.sized.front in
     chain_all (λ at len. at + len ≤ size) spec ss (omega arith)
-    (all_both (IsSound frame.table frame.sector frame.entries_at) (λ s. end_of s ≤ end) (λ s. s.terms.logical ≡ true → record_at s + 512 ≤ size)
+    (all_both (IsSound frame.table frame.sector frame.entries_at) (λ s. end_of s ≤ end)
+    (λ s. s.terms.logical ≡ true → record_at s + 512 ≤ size)
     (λ s is ends logical. record_inside frame.table frame.sector frame.entries_at end size s inside is ends logical) ss known.sound known.sized.ends)
 
 -- ---- a claim
@@ -153,18 +159,22 @@ guid_missed m spec frame ss s o guid has is one claimed =
     let below : o < full frame ss = omega arith in
     guid_all (Misses o) m g
     (mbr_missed frame ss s o has one claimed)
-    (λ within. claim_misses s (in_run frame.sector frame.sector) o (one.sound.header guid) claimed (in_run_true frame.sector frame.sector o within.0 within.1))
-    (λ within. claim_misses s (in_run frame.entries_at entries_len) o (one.sound.entries guid) claimed (entries_run (g.entries_at * g.sector) frame.entries_at o is.entries within))
+    (λ within. claim_misses s (in_run frame.sector frame.sector) o (one.sound.header guid) claimed
+    (in_run_true frame.sector frame.sector o within.0 within.1))
+    (λ within. claim_misses s (in_run frame.entries_at entries_len) o (one.sound.entries guid) claimed
+    (entries_run (g.entries_at * g.sector) frame.entries_at o is.entries within))
     (backup_missed g frame.entries_at (full frame ss) (image_size frame ss) o is below)
 
 -- ---- by the kind of the table
 
 -- the records beside a GUID partition table
 abbrev protected_of : ImageSpec → Frame → List Stood → MbrSpec
-protected_of spec frame ss = mbr_spec spec (protective (image_size frame ss / frame.sector) ∷ no_entry ∷ no_entry ∷ no_entry ∷ [])
+protected_of spec frame ss =
+    mbr_spec spec (protective (image_size frame ss / frame.sector) ∷ no_entry ∷ no_entry ∷ no_entry ∷ [])
 
 abbrev hybrid_of : ImageSpec → Frame → List Stood → MbrSpec
-hybrid_of spec frame ss = hybrid_spec spec.keys.hd.disk_signature (frame.front / 512) (hybrid_entries spec.keys.parts ss)
+hybrid_of spec frame ss =
+    hybrid_spec spec.keys.hd.disk_signature (frame.front / 512) (hybrid_entries spec.keys.parts ss)
 
 guid_known : (spec : ImageSpec) (frame : Frame) (ss : List Stood) → has_guid frame.table ≡ true → IsKnown frame ss → IsAt (guid_spec spec frame ss) frame.entries_at (full frame ss) (image_size frame ss)
 guid_known spec frame ss guid known = guid_at spec frame ss known.frame_is known.sized guid
@@ -173,22 +183,29 @@ pub tables_apart : (t : TableKind) (spec : ImageSpec) (frame : Frame) (ss : List
 tables_apart table.Bare spec frame ss same known = none_apart
 tables_apart table.Mbr spec frame ss same known = chain_apart spec frame ss (ap has_table same) known
 tables_apart table.Gpt spec frame ss same known =
-    guid_apart (protected_of spec frame ss) (guid_spec spec frame ss) frame.entries_at (full frame ss) (image_size frame ss) (guid_known spec frame ss (ap has_guid same) known)
+    guid_apart (protected_of spec frame ss) (guid_spec spec frame ss) frame.entries_at (full frame ss)
+    (image_size frame ss) (guid_known spec frame ss (ap has_guid same) known)
 tables_apart table.Hybrid spec frame ss same known =
-    guid_apart (hybrid_of spec frame ss) (guid_spec spec frame ss) frame.entries_at (full frame ss) (image_size frame ss) (guid_known spec frame ss (ap has_guid same) known)
+    guid_apart (hybrid_of spec frame ss) (guid_spec spec frame ss) frame.entries_at (full frame ss)
+    (image_size frame ss) (guid_known spec frame ss (ap has_guid same) known)
 
 pub tables_inside : (t : TableKind) (spec : ImageSpec) (frame : Frame) (ss : List Stood) → frame.table ≡ t → IsKnown frame ss → All (λ (p : Part). p.at + p.len ≤ image_size frame ss) (tables_as t spec frame ss)
 tables_inside table.Bare spec frame ss same known = All-nil (λ (p : Part). p.at + p.len ≤ image_size frame ss)
 tables_inside table.Mbr spec frame ss same known = chain_inside spec frame ss (ap has_table same) known
 tables_inside table.Gpt spec frame ss same known =
-    guid_inside (protected_of spec frame ss) (guid_spec spec frame ss) frame.entries_at (full frame ss) (image_size frame ss) (guid_known spec frame ss (ap has_guid same) known)
+    guid_inside (protected_of spec frame ss) (guid_spec spec frame ss) frame.entries_at (full frame ss)
+    (image_size frame ss) (guid_known spec frame ss (ap has_guid same) known)
 tables_inside table.Hybrid spec frame ss same known =
-    guid_inside (hybrid_of spec frame ss) (guid_spec spec frame ss) frame.entries_at (full frame ss) (image_size frame ss) (guid_known spec frame ss (ap has_guid same) known)
+    guid_inside (hybrid_of spec frame ss) (guid_spec spec frame ss) frame.entries_at (full frame ss)
+    (image_size frame ss) (guid_known spec frame ss (ap has_guid same) known)
 
 pub tables_missed : (t : TableKind) (spec : ImageSpec) (frame : Frame) (ss : List Stood) (s : Stood) (o : ℕ) → frame.table ≡ t → IsKnown frame ss → IsOne frame ss s → claims s o ≡ true → All (λ (p : Part). ¬ IsIn p o) (tables_as t spec frame ss)
 tables_missed table.Bare spec frame ss s o same known one claimed = All-nil (λ (p : Part). ¬ IsIn p o)
-tables_missed table.Mbr spec frame ss s o same known one claimed = chain_missed spec frame ss s o (ap has_table same) one claimed
+tables_missed table.Mbr spec frame ss s o same known one claimed =
+    chain_missed spec frame ss s o (ap has_table same) one claimed
 tables_missed table.Gpt spec frame ss s o same known one claimed =
-    guid_missed (protected_of spec frame ss) spec frame ss s o (ap has_guid same) (ap has_table same) (guid_known spec frame ss (ap has_guid same) known) one claimed
+    guid_missed (protected_of spec frame ss) spec frame ss s o (ap has_guid same) (ap has_table same)
+    (guid_known spec frame ss (ap has_guid same) known) one claimed
 tables_missed table.Hybrid spec frame ss s o same known one claimed =
-    guid_missed (hybrid_of spec frame ss) spec frame ss s o (ap has_guid same) (ap has_table same) (guid_known spec frame ss (ap has_guid same) known) one claimed
+    guid_missed (hybrid_of spec frame ss) spec frame ss s o (ap has_guid same) (ap has_table same)
+    (guid_known spec frame ss (ap has_guid same) known) one claimed

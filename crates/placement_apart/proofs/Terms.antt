@@ -1,4 +1,5 @@
--- What holds of what the rules look at of each partition of an image whose keys keep within their limits, and where each stands.
+-- What holds of what the rules look at of each partition of an image whose keys keep within their limits, and where
+-- each stands.
 use Rattle.std.specs.Prelude.{◌≡◌, ℕ, ◌≤◌, List, [], ◌∷◌, ◌++◌, All, IfSome, Bool, true, false, ◌&&◌, nat_le, Option, None, Some, length, slice_index, unwrap_or, if◌then◌else◌}
 use Rattle.std.proofs.Common.{refl, arith}
 use Rattle.std.proofs.lemmas.Bool.{and_parts}
@@ -45,7 +46,8 @@ either_least false n h = omega arith
 align_least : (t : TableKind) (hd : HdKeys) (part : PartitionSection) → IfSome hd.align (IsSizeFrom 1) → IsPartitionWithin part → 1 ≤ align_of t hd part
 align_least t hd part own within =
     at_least part.align (if in_table t part then unwrap_or hd.align (default_align t) else 1) within.align
-    (either_least (in_table t part) (unwrap_or hd.align (default_align t)) (at_least hd.align (default_align t) own (default_least t)))
+    (either_least (in_table t part) (unwrap_or hd.align (default_align t))
+    (at_least hd.align (default_align t) own (default_least t)))
 
 -- a logical partition is one of the table of a master boot record
 record IsLogical (t : TableKind) (part : PartitionSection) : Type 0 where
@@ -54,7 +56,9 @@ record IsLogical (t : TableKind) (part : PartitionSection) : Type 0 where
 
 logical_is : (t : TableKind) (hd : HdKeys) (parts before : List PartitionSection) (part : PartitionSection) → is_logical t hd parts before part ≡ true → IsLogical t part
 logical_is t hd parts before part h =
-    let all = and_parts (is_mbr t && in_table t part) (nat_le (primaries hd.extended_partition (length (in_tables t parts))) (length (in_tables t before))) h in
+    let all =
+    and_parts (is_mbr t && in_table t part)
+    (nat_le (primaries hd.extended_partition (length (in_tables t parts))) (length (in_tables t before))) h in
     let both = and_parts (is_mbr t) (in_table t part) all.0 in
     record { narrow = both.0; tabled = both.1 }
 
@@ -62,7 +66,8 @@ all_terms : (spec : ImageSpec) (t : TableKind) (before parts : List PartitionSec
 all_terms spec t before [] lens own within = All-nil (AreTerms t)
 all_terms spec t before (part ∷ rest) [] own within = All-nil (AreTerms t)
 all_terms spec t before (part ∷ rest) (len ∷ lens) own within =
-    let is : is_logical t spec.keys.hd spec.keys.parts before part ≡ true → IsLogical t part = logical_is t spec.keys.hd spec.keys.parts before part in
+    let is : is_logical t spec.keys.hd spec.keys.parts before part ≡ true → IsLogical t part =
+    logical_is t spec.keys.hd spec.keys.parts before part in
     All-cons (AreTerms t) (terms_of spec t before part rest len) (terms_from spec t (before ++ part ∷ []) rest lens)
     (record {
       aligned = align_least t spec.keys.hd part own (All-head IsPartitionWithin part rest within);
@@ -76,9 +81,11 @@ file_terms_are t len = record { aligned = omega arith; tabled = λ h. absurd (cc
 
 -- those of an image
 terms_are : (k : Kind) (spec : ImageSpec) (lens : List ℕ) → IfSome spec.keys.hd.align (IsSizeFrom 1) → All IsPartitionWithin spec.keys.parts → All (AreTerms (table_as k spec.keys.hd)) (terms_as k spec lens)
-terms_are kind.Hd spec lens own within = all_terms spec spec.keys.hd.partition_table_type [] spec.keys.parts lens own within
+terms_are kind.Hd spec lens own within =
+    all_terms spec spec.keys.hd.partition_table_type [] spec.keys.parts lens own within
 terms_are kind.Plain spec lens own within =
-    All-cons (AreTerms table.Bare) (file_terms (slice_index lens 0)) [] (file_terms_are table.Bare (slice_index lens 0)) (All-nil (AreTerms table.Bare))
+    All-cons (AreTerms table.Bare) (file_terms (slice_index lens 0)) []
+    (file_terms_are table.Bare (slice_index lens 0)) (All-nil (AreTerms table.Bare))
 terms_are kind.Flash spec lens own within = All-nil (AreTerms table.Bare)
 terms_are kind.Sparse spec lens own within = All-nil (AreTerms table.Bare)
 terms_are kind.Ready spec lens own within = All-nil (AreTerms table.Bare)
@@ -88,11 +95,13 @@ length_terms : (spec : ImageSpec) (t : TableKind) (before parts : List Partition
 length_terms spec t before [] lens = omega arith
 length_terms spec t before (part ∷ rest) [] = omega arith
 length_terms spec t before (part ∷ rest) (len ∷ lens) =
-    let more : length (terms_from spec t (before ++ part ∷ []) rest lens) ≤ length rest = length_terms spec t (before ++ part ∷ []) rest lens in omega arith
+    let more : length (terms_from spec t (before ++ part ∷ []) rest lens) ≤ length rest =
+    length_terms spec t (before ++ part ∷ []) rest lens in omega arith
 
 few_terms : (k : Kind) (spec : ImageSpec) (lens : List ℕ) → length (counted_of (Some k) spec.keys.parts) ≤ 256 → length (terms_as k spec lens) ≤ 256
 few_terms kind.Hd spec lens few =
-    let most : length (terms_as kind.Hd spec lens) ≤ length spec.keys.parts = length_terms spec spec.keys.hd.partition_table_type [] spec.keys.parts lens in
+    let most : length (terms_as kind.Hd spec lens) ≤ length spec.keys.parts =
+    length_terms spec spec.keys.hd.partition_table_type [] spec.keys.parts lens in
     omega arith
 few_terms kind.Plain spec lens few = omega arith
 few_terms kind.Flash spec lens few = omega arith
@@ -136,14 +145,16 @@ all_standing : (frame : Frame) (before : List Stood) (ts : List Terms) (holess :
 all_standing frame before [] holess are few = All-nil (IsStanding frame)
 all_standing frame before (t ∷ ts) [] are few = All-nil (IsStanding frame)
 all_standing frame before (t ∷ ts) (holes ∷ more) are few =
-    All-cons (IsStanding frame) (stood_of frame before t holes) (stood_from frame (before ++ stood_of frame before t holes ∷ []) ts more)
+    All-cons (IsStanding frame) (stood_of frame before t holes)
+    (stood_from frame (before ++ stood_of frame before t holes ∷ []) ts more)
     (record {
       terms = All-head (AreTerms frame.table) t ts are;
       holes = All-head AreFewHoles holes more few;
       behind = highest frame before;
       place = refl;
     })
-    (all_standing frame (before ++ stood_of frame before t holes ∷ []) ts more (All-tail (AreTerms frame.table) t ts are) (All-tail AreFewHoles holes more few))
+    (all_standing frame (before ++ stood_of frame before t holes ∷ []) ts more
+    (All-tail (AreTerms frame.table) t ts are) (All-tail AreFewHoles holes more few))
 
 -- the partitions of an image, with a frame of its table
 pub stand_all : (k : Kind) (spec : ImageSpec) (frame : Frame) (lens : List ℕ) → frame.table ≡ table_as k spec.keys.hd → IfSome spec.keys.hd.align (IsSizeFrom 1) → All IsPartitionWithin spec.keys.parts → All (IsStanding frame) (stood_from frame [] (terms_as k spec lens) (holes_as k spec.keys.parts))
@@ -156,13 +167,15 @@ length_stood frame before [] holess = omega arith
 length_stood frame before (t ∷ ts) [] = omega arith
 length_stood frame before (t ∷ ts) (holes ∷ more) =
     let s : Stood = stood_of frame before t holes in
-    let rest : length (stood_from frame (before ++ s ∷ []) ts more) ≤ length ts = length_stood frame (before ++ s ∷ []) ts more in
+    let rest : length (stood_from frame (before ++ s ∷ []) ts more) ≤ length ts =
+    length_stood frame (before ++ s ∷ []) ts more in
     omega arith
 
 pub few_stood : (k : Kind) (spec : ImageSpec) (frame : Frame) (lens : List ℕ) → length (counted_of (Some k) spec.keys.parts) ≤ 256 → length (stood_from frame [] (terms_as k spec lens) (holes_as k spec.keys.parts)) ≤ 256
 few_stood k spec frame lens few =
     let terms : length (terms_as k spec lens) ≤ 256 = few_terms k spec lens few in
-    let most : length (stood_from frame [] (terms_as k spec lens) (holes_as k spec.keys.parts)) ≤ length (terms_as k spec lens) = length_stood frame [] (terms_as k spec lens) (holes_as k spec.keys.parts) in
+    let most : length (stood_from frame [] (terms_as k spec lens) (holes_as k spec.keys.parts)) ≤ length (terms_as k spec lens) =
+    length_stood frame [] (terms_as k spec lens) (holes_as k spec.keys.parts) in
     omega arith
 
 -- ---- sources
@@ -194,7 +207,8 @@ none_sourced (source ∷ sources) = tt
 
 pub source_all : (k : Kind) (spec : ImageSpec) (frame : Frame) (sources : List Source) (lens : List ℕ) → AreLengths sources lens → AreSourced sources (stood_from frame [] (terms_as k spec lens) (holes_as k spec.keys.parts))
 source_all kind.Hd spec frame sources lens are =
-    all_sourced spec spec.keys.hd.partition_table_type frame [] [] spec.keys.parts sources lens (holes_as kind.Hd spec.keys.parts) are
+    all_sourced spec spec.keys.hd.partition_table_type frame [] [] spec.keys.parts sources lens
+    (holes_as kind.Hd spec.keys.parts) are
 source_all kind.Plain spec frame sources lens are = one_sourced frame sources lens are
 source_all kind.Flash spec frame sources lens are = none_sourced sources
 source_all kind.Sparse spec frame sources lens are = none_sourced sources
