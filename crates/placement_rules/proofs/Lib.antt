@@ -1,1 +1,3 @@
 -- lemmas
+pub mod AllTerms
+pub mod Multiples

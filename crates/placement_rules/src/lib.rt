@@ -1,8 +1,17 @@
-//! The rules by which the partitions of a disk image are placed: which numbers they rest on, and what refuses a placing.
+//! The rules by which the partitions of a disk image are placed: which numbers they rest on, where each partition stands,
+//! and what refuses it by its own numbers.
 #![tactic(auto)]
 
+mod checks;
 mod faults;
+mod frames;
+mod listing;
+mod places;
+mod standing;
 mod terms;
 
 pub use faults::{Meeting, PartFault, PlaceFault};
+pub use frames::frame_of;
+pub use listing::terms_of;
+pub use standing::stand;
 pub use terms::{Frame, Place, Terms};
