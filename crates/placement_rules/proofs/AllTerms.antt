@@ -1,8 +1,8 @@
 -- What the rules look at of all partitions: how many there are, their bounds, and one more of them.
 use Rattle.std.specs.Prelude.{◌≡◌, ℕ, ◌+◌, ◌<◌, ◌≤◌, ◌^◌, Bool, true, false, List, [], ◌∷◌, ◌++◌, Option, Some, None, All, IfSome, if◌then◌else◌, length, take, drop, unwrap_or}
-use Rattle.std.proofs.Common.{refl, ap, sym, ◌∙◌, arith, get_or, nat_eq}
+use Rattle.std.proofs.Common.{refl, ap, sym, ◌∙◌, append-nil, arith}
 use Rattle.std.specs.List.{AllByRecursion}
-use Rattle.std.proofs.lemmas.List.{at_drop_more, take_more}
+use Rattle.std.proofs.lemmas.List.{at_drop_all}
 use Rattle.std.proofs.lemmas.List.Elements.{All-from_recursion, recursion_from_All}
 use Rattle.base_fields.specs.declared.spans.TableKind.{TableKind}
 use Rattle.base_fields.specs.declared.spans.TableKind.TheVariants as table
@@ -62,3 +62,15 @@ terms_within spec lens within =
     (recursion_from_All IsPartitionWithin spec.keys.parts within.parts))
 
 -- ---- one more
+
+-- ---- the loop over all of them
+
+none_left : (spec : ImageSpec) (table : TableKind) (before : List PartitionSection) (ts : List Terms) (lens : List ℕ) → ts ++ terms_from spec table before [] lens ≡ ts
+none_left spec table before ts lens = append-nil ts
+
+-- when no partition is left
+pub listed : (spec : ImageSpec) (table : TableKind) (parts slice : List PartitionSection) (lens : List ℕ) (ts : List Terms) (k : ℕ) → slice ≡ parts → length slice ≤ k → ts ++ terms_from spec table (take k slice) (drop k slice) (drop k lens) ≡ terms_from spec table [] slice lens → ts ≡ terms_from spec table [] parts lens
+listed spec table parts slice lens ts k same past so_far =
+    sym (none_left spec table (take k slice) ts (drop k lens))
+    ∙ sym (at_drop_all (λ (rest : List PartitionSection). ts ++ terms_from spec table (take k slice) rest (drop k lens)) slice k past)
+    ∙ so_far ∙ ap (λ (all : List PartitionSection). terms_from spec table [] all lens) same

@@ -1,3 +1,6 @@
 -- lemmas
 pub mod AllTerms
+pub mod Divides
 pub mod Multiples
+pub mod NoFault
+pub mod Stands
