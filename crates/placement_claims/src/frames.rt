@@ -1,12 +1,10 @@
 ghost use Rattle.std.specs.Prelude.{◌≡◌, ℕ, ◌≤◌};
 ghost use Rattle.placement_claims.specs.Held.{IsFramed, met_front};
 ghost use Rattle.placement_rules.specs.Faults.{met};
-ghost use Rattle.placement_rules.specs.Frames.{has_guid, has_table};
 
 use crate::claim::Claim;
 use crate::earlier::Earlier;
-use base_fields::TableKind;
-use placement_rules::{Frame, Meeting};
+use placement_rules::{Frame, Meeting, has_guid, has_table};
 
 /// Where a master boot record has its disk signature, and the bytes from there to its end.
 const RECORD_AT: u64 = 440;
@@ -47,16 +45,4 @@ fn met_front(frame: &Frame, claim: &Claim) -> Option<Meeting>
         return Some(Meeting::Front);
     }
     None
-}
-
-fn has_table(table: TableKind) -> bool
-    ensures { result ≡ has_table table }
-{
-    !matches!(table, TableKind::Bare)
-}
-
-fn has_guid(table: TableKind) -> bool
-    ensures { result ≡ has_guid table }
-{
-    matches!(table, TableKind::Gpt | TableKind::Hybrid)
 }
