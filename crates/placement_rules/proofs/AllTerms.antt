@@ -1,5 +1,5 @@
 -- What the rules look at of all partitions: how many there are, their bounds, and one more of them.
-use Rattle.std.specs.Prelude.{◌≡◌, ℕ, ◌+◌, ◌<◌, ◌≤◌, ◌^◌, Bool, true, false, List, [], ◌∷◌, ◌++◌, Option, Some, None, All, IfSome, if◌then◌else◌, length, take, drop, unwrap_or}
+use Rattle.std.specs.Prelude.{◌≡◌, ℕ, ◌≤◌, Bool, true, false, List, [], ◌∷◌, ◌++◌, Option, Some, None, IfSome, if◌then◌else◌, length, take, drop, unwrap_or}
 use Rattle.std.proofs.Common.{refl, ap, sym, ◌∙◌, append-nil, arith}
 use Rattle.std.specs.List.{AllByRecursion}
 use Rattle.std.proofs.lemmas.List.{at_drop_all}
@@ -11,7 +11,7 @@ use Rattle.conf_keys.specs.declared.conf.HdKeys.{HdKeys}
 use Rattle.conf_keys.specs.declared.conf.PartitionSection.{PartitionSection}
 use Rattle.image_specs.specs.declared.specs.ImageSpec.{ImageSpec}
 use Rattle.placement_rules.specs.Bounds.{AreTerms, IsTerms}
-use Rattle.placement_rules.specs.Terms.{align_of, default_align, in_table, is_nil, terms_from, terms_of}
+use Rattle.placement_rules.specs.Terms.{align_of, default_align, in_table, terms_from}
 use Rattle.placement_rules.specs.declared.terms.Terms.{Terms}
 
 -- ---- how many

@@ -4,7 +4,7 @@ use Rattle.std.proofs.Common.{refl, arith}
 use Rattle.std.proofs.lemmas.Bool.{eqb-false, eqb-true, ltb-false, not-false}
 use Rattle.base_fields.specs.Results.{provided}
 use Rattle.placement_rules.specs.Bounds.{IsNarrowPlace, place_fault}
-use Rattle.placement_rules.specs.Faults.{◌or◌, above, bad_autoresize, below, misaligned, most_bytes, no_size, off_multiple, too_far, too_large, where_so}
+use Rattle.placement_rules.specs.Faults.{◌or◌, above, below, misaligned, most_bytes, off_multiple, where_so}
 use Rattle.placement_rules.specs.declared.faults.PartFault.{PartFault}
 use Rattle.placement_rules.specs.declared.faults.PartFault.TheVariants.{Misaligned}
 use Rattle.placement_rules.specs.declared.terms.Frame.{Frame}

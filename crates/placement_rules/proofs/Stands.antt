@@ -5,12 +5,11 @@ use Rattle.std.proofs.Math.Nat.{add-mod_right, mul-mod_left, zero-mod}
 use Rattle.placement_rules.proofs.Divides.{whole_again, whole_between}
 use Rattle.placement_rules.proofs.Multiples.{least_whole}
 use Rattle.placement_rules.proofs.NoFault.{AreAligned, IsWithinLimits, aligned, within_limits}
-use Rattle.placement_rules.specs.Bounds.{IsStanding, IsTabledPlace, place_fault}
+use Rattle.placement_rules.specs.Bounds.{IsStanding, place_fault}
 use Rattle.placement_rules.specs.Faults.{misaligned}
 use Rattle.placement_rules.specs.Frames.{backup_len}
-use Rattle.placement_rules.specs.Places.{at_from, least_multiple, room_in, room_of, size_of, standing}
+use Rattle.placement_rules.specs.Places.{at_from, least_multiple, room_in, room_of, standing}
 use Rattle.placement_rules.specs.declared.terms.Frame.{Frame}
-use Rattle.placement_rules.specs.declared.terms.Place.{Place}
 use Rattle.placement_rules.specs.declared.terms.Terms.{Terms}
 
 -- ---- where it stands, by whether it has an offset and whether it is logical

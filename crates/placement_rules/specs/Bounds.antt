@@ -1,5 +1,5 @@
 -- Between which numbers all that the rules look at lies, and what holds of a partition that stands.
-use Rattle.std.specs.Prelude.{◌≡◌, ℕ, ◌+◌, ◌-◌, ◌*◌, ◌/◌, ◌%◌, ◌^◌, ◌<◌, ◌≤◌, Bool, true, false, IsTrue, IfSome, List, [], All, Option, Result, MatchResult, Some, None, is_some, not, ◌&&◌}
+use Rattle.std.specs.Prelude.{◌≡◌, ℕ, ◌+◌, ◌-◌, ◌/◌, ◌%◌, ◌^◌, ◌<◌, ◌≤◌, Bool, true, false, IsTrue, IfSome, List, [], All, Option, Result, MatchResult, Some, None, is_some, not, ◌&&◌}
 use Rattle.conf_keys.specs.Within.{IsSectorSize, IsSizeFrom}
 use Rattle.conf_keys.specs.declared.conf.Kind.{Kind}
 use Rattle.conf_keys.specs.declared.conf.Kind.TheVariants as kind

@@ -55,7 +55,7 @@ fn align_of(table: TableKind, hd: &HdKeys, part: &PartitionSection) -> u64
     part.align.unwrap_or(otherwise)
 }
 
-/// How many of `count` partitions of an mbr are primary where there are more.
+/// How many of the `count` partitions that an mbr has are primary: those in front of the extended partition's slot.
 fn primaries(extended_partition: u32, count: usize) -> usize
     ensures { result ≡ primaries extended_partition count }
 {
@@ -73,7 +73,7 @@ pub fn count_tabled(table: TableKind, parts: &[PartitionSection]) -> usize
     parts.iter().filter(|part| in_table(table, part)).count()
 }
 
-/// With one partition more.
+/// How many there are with one partition more.
 fn counted(table: TableKind, before: Counts, part: &PartitionSection) -> Counts
     requires tabled { before.tabled < 2 ^ 32 }
     requires typed { before.typed < 2 ^ 32 }
@@ -115,6 +115,7 @@ fn part_terms(
     }
 }
 
+/// What the rules look at of an image of one file.
 fn file_terms(alloc: Global, len: u64) -> Result<List<Terms>, NoMemory>
     ensures { IfOk result (λ ts. ts ≡ file_terms len ∷ []) }
 {
@@ -133,11 +134,13 @@ fn file_terms(alloc: Global, len: u64) -> Result<List<Terms>, NoMemory>
     Ok(terms)
 }
 
+/// What the rules look at of each partition of a disk image.
 fn all_terms(alloc: Global, spec: &ImageSpec, lens: &[u64]) -> Result<List<Terms>, NoMemory>
     requires within { IsImageWithin spec.now.keys }
     requires few { length spec.now.keys.parts ≤ 256 }
     requires lens { length lens.now ≡ length spec.now.keys.parts }
-    ensures terms { IfOk result (λ ts. ts ≡ terms_from spec.now spec.now.keys.hd.partition_table_type [] spec.now.keys.parts lens.now) }
+    ensures terms { IfOk result (λ ts.
+        ts ≡ terms_from spec.now spec.now.keys.hd.partition_table_type [] spec.now.keys.parts lens.now) }
     ensures within { IfOk result AreTerms }
     ensures count { IfOk result (λ ts. length ts ≡ length spec.now.keys.parts) }
 {

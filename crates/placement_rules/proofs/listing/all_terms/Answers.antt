@@ -1,4 +1,4 @@
-use Rattle.std.proofs.Common.{◌≡◌, List, [], ap, length, subst, sym, ◌∙◌}
+use Rattle.std.proofs.Common.{List, [], ap, length, subst, sym, ◌∙◌}
 use Rattle.placement_rules.proofs.AllTerms.{terms_length, terms_within, listed}
 use Rattle.placement_rules.specs.Bounds.{AreTerms}
 use Rattle.placement_rules.specs.declared.terms.Terms.{Terms}

@@ -1,4 +1,4 @@
-use Rattle.std.proofs.Common.{◌≡◌, ◌∙◌, sym, subst}
+use Rattle.std.proofs.Common.{◌∙◌, subst}
 use Rattle.std.proofs.lemmas.Slice.Zip.{AllZip-long}
 use Rattle.conf_keys.specs.declared.conf.Kind.{Kind}
 use Rattle.image_specs.specs.IsSpec.{AreSources, IsSourceFor}

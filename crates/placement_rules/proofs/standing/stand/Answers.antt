@@ -1,4 +1,4 @@
-use Rattle.std.proofs.Common.{◌≡◌, ap, subst, sym, ◌∙◌}
+use Rattle.std.proofs.Common.{ap, subst, sym, ◌∙◌}
 use Rattle.placement_rules.proofs.Stands.{stands}
 use Rattle.placement_rules.specs.Bounds.{IsStanding, place_fault}
 use Rattle.placement_rules.specs.declared.terms.Place.{Place}
