@@ -11,7 +11,7 @@ use conf_values::{Hole, MOST_SIZE};
 const MOST_SECTORS: u64 = 0xFFFF_FFFF;
 
 /// A number that is there and isn't a multiple.
-fn off_multiple(number: Option<u64>, to: u64) -> Option<u64>
+pub fn off_multiple(number: Option<u64>, to: u64) -> Option<u64>
     requires { 1 ≤ to }
     ensures { result ≡ off_multiple number to }
 {

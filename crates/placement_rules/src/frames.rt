@@ -13,14 +13,14 @@ use image_specs::ImageSpec;
 pub(crate) const ENTRIES_LEN: u64 = 16_384;
 
 /// Whether an image has a table.
-pub(crate) fn has_table(table: TableKind) -> bool
+pub fn has_table(table: TableKind) -> bool
     ensures { result ≡ has_table table }
 {
     !matches!(table, TableKind::Bare)
 }
 
 /// Whether an image has a GUID partition table.
-fn has_guid(table: TableKind) -> bool
+pub fn has_guid(table: TableKind) -> bool
     ensures { result ≡ has_guid table }
 {
     matches!(table, TableKind::Gpt | TableKind::Hybrid)

@@ -10,8 +10,10 @@ mod places;
 mod standing;
 mod terms;
 
+pub use checks::off_multiple;
 pub use faults::{Meeting, PartFault, PlaceFault};
-pub use frames::frame_of;
-pub use listing::terms_of;
+pub use frames::{frame_of, has_guid, has_table};
+pub use listing::{count_tabled, terms_of};
+pub use places::{backup_len, least_multiple};
 pub use standing::stand;
 pub use terms::{Frame, Place, Terms};

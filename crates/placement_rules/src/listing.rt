@@ -67,7 +67,7 @@ fn primaries(extended_partition: u32, count: usize) -> usize
 }
 
 /// How many partitions the table has.
-fn count_tabled(table: TableKind, parts: &[PartitionSection]) -> usize
+pub fn count_tabled(table: TableKind, parts: &[PartitionSection]) -> usize
     ensures { result ≡ length (in_tables table parts.now) }
 {
     parts.iter().filter(|part| in_table(table, part)).count()

@@ -9,7 +9,7 @@ use crate::{Frame, Place, Terms};
 use base_fields::round_up;
 
 /// The bytes of the backup at the end of an image: its entries and its header.
-fn backup_len(frame: &Frame) -> u64
+pub fn backup_len(frame: &Frame) -> u64
     ensures { result ≡ backup_len frame.now }
 {
     if frame.backup {
@@ -21,7 +21,7 @@ fn backup_len(frame: &Frame) -> u64
 
 /// The least multiple of `to` that isn't below `n`.
 #[tactic(auto, using(base_fields::proofs::Rounding::round_fits, crate::proofs::Multiples::rounded))]
-fn least_multiple(to: u64, n: u64) -> u64
+pub fn least_multiple(to: u64, n: u64) -> u64
     requires to { 1 ≤ to }
     requires fits { n + to ≤ 2 ^ 64 }
     ensures least { result ≡ least_multiple to n }
