@@ -2,7 +2,9 @@
 use crate::shelf::Shelf;
 use anyhow::{Result, bail};
 use base_fields::{List, Pair};
+use outside::TrickleFiles;
 use std::alloc::Global;
+use std::mem;
 
 /// The files and the variables of a scenario, and what is to fail.
 #[derive(Debug, Drop)]
@@ -29,6 +31,18 @@ impl Setting {
             vars: List::new(alloc),
             failing_lines: Vec::new(alloc),
         }
+    }
+
+    /// The files, called so that a call reads at most one byte. None is here until they are put back.
+    pub fn take_trickled(&mut self) -> TrickleFiles<Shelf> {
+        let none = Shelf::new(self.alloc);
+        let inner = mem::replace(&mut self.files, none);
+        TrickleFiles { inner }
+    }
+
+    /// Puts the files back.
+    pub fn put_back(&mut self, files: TrickleFiles<Shelf>) {
+        self.files = files.inner;
     }
 
     /// Puts a file, and says its length.
