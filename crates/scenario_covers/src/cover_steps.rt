@@ -57,6 +57,13 @@ pub enum CoverStep {
         unit: u32,
         number: u64,
     },
+    /// All units of the range that has the unit of a number.
+    UnitRange {
+        size: u64,
+        block: u32,
+        unit: u32,
+        number: u64,
+    },
 }
 
 /// The digest of the range of a number.
@@ -90,6 +97,7 @@ impl CoverStep {
                 unit: words.word("a unit's size")?,
             },
             "unit" => read_unit(words)?,
+            "unit-range" => read_unit_range(words)?,
             _ => return Ok(None),
         };
         Ok(Some(step))
@@ -114,6 +122,12 @@ impl CoverStep {
                 unit,
                 number,
             } => one_unit(alloc, cover, size, block, unit, number),
+            CoverStep::UnitRange {
+                size,
+                block,
+                unit,
+                number,
+            } => unit_range(alloc, cover, size, block, unit, number),
         }
     }
 }
@@ -150,6 +164,15 @@ fn read_digest(words: &mut Arguments) -> Result<RangeDigest> {
 
 fn read_unit(words: &mut Arguments) -> Result<CoverStep> {
     Ok(CoverStep::Unit {
+        size: words.number("a size")?,
+        block: words.word("a block's size")?,
+        unit: words.word("a unit's size")?,
+        number: words.number("a unit")?,
+    })
+}
+
+fn read_unit_range(words: &mut Arguments) -> Result<CoverStep> {
+    Ok(CoverStep::UnitRange {
         size: words.number("a size")?,
         block: words.word("a block's size")?,
         unit: words.word("a unit's size")?,
@@ -333,4 +356,29 @@ fn one_unit(
         }
         Err(fault) => Ok(format!(in alloc; "no units: {fault:?}")?),
     }
+}
+
+fn unit_range(
+    alloc: Global,
+    cover: &Cover,
+    size: u64,
+    block: u32,
+    unit: u32,
+    number: u64,
+) -> Result<String> {
+    match &units_of(alloc, cover, size, block, unit)? {
+        Ok(units) => range_of(alloc, units, number),
+        Err(fault) => Ok(format!(in alloc; "no units: {fault:?}")?),
+    }
+}
+
+/// The number of the range that has a unit, and its units as the first one and how many there are.
+fn range_of(alloc: Global, units: &Units, number: u64) -> Result<String> {
+    if number >= units.count() {
+        bail!("no such unit");
+    }
+    let range = units.range_of(number);
+    let first = units.first_of(range);
+    let count = units.count_of(range);
+    Ok(format!(in alloc; "range {range} has units {first}+{count}")?)
 }

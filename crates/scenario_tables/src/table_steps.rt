@@ -133,7 +133,8 @@ fn read_entries(alloc: Global, words: &mut Arguments) -> Result<Vec<MbrEntry>> {
     Ok(entries)
 }
 
-fn read_entry(words: &mut Arguments) -> Result<MbrEntry> {
+/// An entry that has a sector.
+pub fn read_entry(words: &mut Arguments) -> Result<MbrEntry> {
     let entry = MbrEntry {
         active: words.truth("active")?,
         kind: words.byte("a type")?,
@@ -146,7 +147,8 @@ fn read_entry(words: &mut Arguments) -> Result<MbrEntry> {
     Ok(entry)
 }
 
-fn read_specs(alloc: Global, words: &mut Arguments) -> Result<Vec<LogicalSpec>> {
+/// Logical partitions, as long as there are words.
+pub fn read_specs(alloc: Global, words: &mut Arguments) -> Result<Vec<LogicalSpec>> {
     let mut specs = Vec::new(alloc);
     for _ in 0..words.left() {
         if words.is_empty() {
@@ -220,7 +222,7 @@ fn read_flags(words: &mut Arguments) -> Result<Flags> {
 }
 
 /// Whether an entry is empty or has a last sector.
-fn has_last(entry: &MbrEntry) -> bool
+pub fn has_last(entry: &MbrEntry) -> bool
     ensures { IsTrue result → HasLast 0 entry.now }
 {
     entry.is_empty() || entry.first > 0 || entry.count > 0
@@ -323,7 +325,7 @@ fn stands(specs: &[LogicalSpec], k: usize) -> bool
 }
 
 /// Whether so many sectors from the first on end before sector `head` + 2^32.
-fn is_near(head: u32, first: u32, count: u32) -> bool
+pub fn is_near(head: u32, first: u32, count: u32) -> bool
     ensures { IsTrue result → first + count < head + 2 ^ 32 }
 {
     let end = u64::from(first) + u64::from(count);
