@@ -1,4 +1,4 @@
-use base_fields::Name;
+use base_fields::{Name, NoMemory};
 
 /// What a partition meets that it may not.
 #[derive(Clone, Copy, Debug, PartialEq, Eq)]
@@ -53,4 +53,15 @@ pub enum PlaceFault {
     NotOnBlock { part: Name, value: u64, pebsize: u64 },
     PastFlash { part: Name, end: u64, limit: u64 },
     NoMemory,
+}
+
+impl From<NoMemory> for PlaceFault {
+    ghost use Rattle.std.specs.Prelude.{◌≡◌};
+    ghost use Rattle.placement_rules.specs.declared.faults.PlaceFault.TheVariants.{NoMemory};
+
+    ghost from_gives = { λ _ fault. fault ≡ NoMemory };
+
+    fn from(_: NoMemory) -> Self {
+        PlaceFault::NoMemory
+    }
 }
