@@ -13,7 +13,7 @@ use Rattle.journal_format.specs.Journals.{HasAllMarks, IsHeld, IsMarked, IsOpene
 use Rattle.journal_format.specs.declared.jobs.JobId.{JobId}
 use Rattle.journal_format.proofs.JournalLemmas.{front_fields, front_window, held_front, held_in_front, same_front, same_held, same_run, window_2}
 use Rattle.copy_journal.proofs.PieceLemmas.{length-written, written_above, written_below, written_inside}
-use Rattle.copy_journal.specs.Events.{AreMarked, AreZero, Finds, IsClosedOrNew, IsForgetting, IsFound, IsNew, IsReady, IsShut, SameGate, Tells}
+use Rattle.copy_journal.specs.Events.{AreMarked, AreZero, IsClosedOrNew, IsForgetting, IsFound, IsNew, IsReady, IsShut, SameGate, Tells}
 use Rattle.copy_journal.specs.declared.looking.Found.{Found}
 
 -- ---- one image, and one torn at the gate
@@ -137,15 +137,15 @@ prepared id w old new magic body enough is_magic eight is_body seventy torn zero
 
 -- ---- what a look finds
 
-pub found_tells : (j head : List ℕ) (len : ℕ) (found : Option Found) → len ≡ length j → 80 ≤ length j → head ≡ take 80 j → Finds len head found → Tells j found
+pub found_tells : (j head : List ℕ) (len : ℕ) (found : Option Found) → len ≡ length j → 80 ≤ length j → head ≡ take 80 j → Tells len head found → Tells (length j) j found
 found_tells j head len None size long is finds = λ held. finds (subst IsHeld (sym is) (held_in_front j held))
 found_tells j head len (Some f) size long is finds =
-    let held : IsHeld j = held_front j long (subst IsHeld is finds.1) in
+    let held : IsHeld j = held_front j long (subst IsHeld is finds.held) in
     record {
       held = held;
-      long = finds.0 ∙ size;
-      window = finds.2 ∙ (ap window_of is ∙ front_window j held);
-      fields = finds.3 ∙ (ap fields_in is ∙ front_fields j long);
+      long = finds.long ∙ size;
+      window = finds.window ∙ (ap window_of is ∙ front_window j held);
+      fields = finds.fields ∙ (ap fields_in is ∙ front_fields j long);
     }
 
 -- ---- the devices
@@ -198,18 +198,18 @@ settled_looked {dev} {a} {b} settled looked = λ image now. settled image (looke
 
 -- ---- what is found, and the job
 
-pub found_opened : (id : JobId) (j : List ℕ) (found : Found) → IsFound j found → (found.held.fields ≡ fields_of id) × (80 + id.units + id.ranges ≤ found.length) → IsOpenedFor id j
+pub found_opened : (id : JobId) (j : List ℕ) (found : Found) → IsFound (length j) j found → (found.held.fields ≡ fields_of id) × (80 + id.units + id.ranges ≤ found.length) → IsOpenedFor id j
 found_opened id j found is matches = record {
   held = is.held;
   fields = sym is.fields ∙ matches.0;
   long = let long = is.long in let enough = matches.1 in omega arith;
 }
 
-pub opened_found : (id : JobId) (j : List ℕ) (found : Found) → IsFound j found → IsOpenedFor id j → (found.held.fields ≡ fields_of id) × (80 + id.units + id.ranges ≤ found.length)
+pub opened_found : (id : JobId) (j : List ℕ) (found : Found) → IsFound (length j) j found → IsOpenedFor id j → (found.held.fields ≡ fields_of id) × (80 + id.units + id.ranges ≤ found.length)
 opened_found id j found is opened = (is.fields ∙ opened.fields, let long = is.long in let enough = opened.long in omega arith)
 
 -- all marks are recorded, where the run of them is
-pub finished_is : (id : JobId) (j : List ℕ) (found : Found) (all : Bool) → IsFound j found → (found.held.fields ≡ fields_of id) × (80 + id.units + id.ranges ≤ found.length) → (IsTrue all → AreMarked 80 (id.units + id.ranges) j) × (AreMarked 80 (id.units + id.ranges) j → IsTrue all) → (IsTrue all → IsOpenedFor id j × HasAllMarks id j) × (IsOpenedFor id j × HasAllMarks id j → IsTrue all)
+pub finished_is : (id : JobId) (j : List ℕ) (found : Found) (all : Bool) → IsFound (length j) j found → (found.held.fields ≡ fields_of id) × (80 + id.units + id.ranges ≤ found.length) → (IsTrue all → AreMarked 80 (id.units + id.ranges) j) × (AreMarked 80 (id.units + id.ranges) j → IsTrue all) → (IsTrue all → IsOpenedFor id j × HasAllMarks id j) × (IsOpenedFor id j × HasAllMarks id j → IsTrue all)
 finished_is id j found all is matches marked = (
   λ yes. (found_opened id j found is matches, λ i h. marked.0 yes (80 + i) (omega arith) (omega arith)),
   λ both. marked.1 (λ k low high.
@@ -223,7 +223,7 @@ pub gate_read : (j buf : List ℕ) (byte : ℕ) → buf ≡ take 1 (drop 8 j) �
 gate_read j buf byte is reads = sym (get_or-drop 8 j 0 0) ∙ (sym (get_or-take 1 (drop 8 j) 0 0 (omega arith)) ∙ (ap (λ (xs : List ℕ). slice_index xs 0) (sym is) ∙ reads))
 
 -- what is found is a held journal
-pub some_held : (j : List ℕ) (found : Option Found) (f : Found) → found ≡ Some f → Tells j found → IsHeld j
+pub some_held : (j : List ℕ) (found : Option Found) (f : Found) → found ≡ Some f → Tells (length j) j found → IsHeld j
 some_held j None f is tells = absurd (cc)
 some_held j (Some g) f is tells = tells.held
 

@@ -60,20 +60,16 @@ pub record AreMarks (id : JobId) (j : List ℕ) (marks : Marks) : Type 0 where
 abbrev pub AreMarked : ℕ → ℕ → List ℕ → Type 0
 AreMarked at n j = (k : ℕ) → at ≤ k → k < at + n → IsMarked j k
 
--- a journal that is held, with its length and what its first bytes tell
-pub record IsFound (j : List ℕ) (found : Found) : Type 0 where
+-- what is found of a held journal of so many bytes
+pub record IsFound (len : ℕ) (j : List ℕ) (found : Found) : Type 0 where
   pub held : IsHeld j
-  pub long : found.length ≡ length j
+  pub long : found.length ≡ len
   pub window : found.held.window ≡ window_of j
   pub fields : found.held.fields ≡ fields_in j
 
--- what a look at a journal gives: nothing exactly where it isn't held
-abbrev pub Tells : List ℕ → Option Found → Type 0
-Tells j found = MatchOption found (¬ IsHeld j) (IsFound j)
-
--- what the first bytes of a journal give
-abbrev pub Finds : ℕ → List ℕ → Option Found → Type 0
-Finds len head found = MatchOption found (¬ IsHeld head) (λ f. (f.length ≡ len) × IsHeld head × (f.held.window ≡ window_of head) × (f.held.fields ≡ fields_in head))
+-- what a journal of so many bytes tells: nothing exactly where it isn't held
+abbrev pub Tells : ℕ → List ℕ → Option Found → Type 0
+Tells len j found = MatchOption found (¬ IsHeld j) (IsFound len j)
 
 -- the gate isn't open, or there is no byte for it
 abbrev pub IsShut : List ℕ → Type 0

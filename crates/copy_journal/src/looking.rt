@@ -3,14 +3,14 @@ ghost use Rattle.bench.specs.Disk.{Looked, StillLeaves};
 ghost use Rattle.bench.specs.Meter.{CostsOn, IsAttached, SameNames};
 ghost use Rattle.bench.specs.declared.Dev.{Dev};
 ghost use Rattle.journal_format.specs.JobFields.{IsWithinLimits, fields_of};
-ghost use Rattle.copy_journal.specs.Events.{Finds, Tells};
+ghost use Rattle.copy_journal.specs.Events.{Tells};
 ghost use Rattle.copy_journal.specs.Faults.{HasFailed};
 
 use bench::{Bench, BenchErr, Dev};
 use journal_format::{HEADER_LEN, Held, JobId, MARKS, held_in};
 
 /// A held journal: its length in bytes, and what its first bytes tell.
-#[derive(Clone, Copy, Debug, PartialEq, Eq)]
+#[derive(Clone, Copy)]
 pub(crate) struct Found {
     pub(crate) length: u64,
     pub(crate) held: Held,
@@ -36,7 +36,7 @@ impl Found {
 /// What the journal tells, where it is held.
 pub(crate) fn look<B: Bench>(bench: &mut B) -> Result<Option<Found>, BenchErr>
     requires { IsAttached (B.meter bench.old) Dev.Journal }
-    ensures exact { B.told → IfOk result (Tells ((B.disk bench.old).reads Dev.Journal)) }
+    ensures exact { B.told → IfOk result (let j = (B.disk bench.old).reads Dev.Journal in Tells (length j) j) }
     ensures looked { Looked (B.disk bench.old) (B.disk bench.new) }
     ensures stays { (each : Dev) → StillLeaves each (B.disk bench.old) (B.disk bench.new) }
     ensures bill { CostsOn Dev.Journal 64 (B.meter bench.old) (B.meter bench.new) }
@@ -53,9 +53,9 @@ pub(crate) fn look<B: Bench>(bench: &mut B) -> Result<Option<Found>, BenchErr>
 }
 
 /// What a journal of this length with these first bytes tells, where it is held.
-fn found_in(length: u64, head: &[u8; 80]) -> Option<Found>
-    ensures { Finds length head.now result }
+fn found_in(len: u64, head: &[u8; 80]) -> Option<Found>
+    ensures { Tells len head.now result }
 {
     let held = held_in(head)?;
-    Some(Found { length, held })
+    Some(Found { length: len, held })
 }

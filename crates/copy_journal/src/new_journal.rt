@@ -46,7 +46,7 @@ pub fn open_new<B: Bench>(bench: &mut B, id: &JobId, window: u32) -> Result<(), 
 fn is_finished<B: Bench>(bench: &mut B, id: &JobId, found: &Found) -> Result<bool, BenchErr>
     requires attached { IsAttached (B.meter bench.old) Dev.Journal }
     requires limits { IsWithinLimits id.now }
-    requires found { B.told → IsFound ((B.disk bench.old).reads Dev.Journal) found.now }
+    requires found { B.told → let j = (B.disk bench.old).reads Dev.Journal in IsFound (length j) j found.now }
     ensures exact { B.told → let j = (B.disk bench.old).reads Dev.Journal in
         IfOk result (λ finished. IsTrue finished ↔ (IsOpenedFor id.now j × HasAllMarks id.now j)) }
     ensures looked { Looked (B.disk bench.old) (B.disk bench.new) }

@@ -9,7 +9,8 @@ use Rattle.journal_format.specs.declared.jobs.JobId.{JobId}
 -- unit, the number of units, and the number of ranges
 unfoldable pub fields_of : JobId → List ℕ
 fields_of id =
-    id.digest ++ (little_bytes 8 id.size ++ (little_bytes 4 id.block ++ (little_bytes 4 id.unit ++ (little_bytes 8 id.units ++ little_bytes 8 id.ranges))))
+    id.digest ++ (little_bytes 8 id.size ++ (little_bytes 4 id.block ++ (little_bytes 4 id.unit
+    ++ (little_bytes 8 id.units ++ little_bytes 8 id.ranges))))
 
 -- the numbers are as wide as their fields
 pub record FitFields (id : JobId) : Type 0 where
