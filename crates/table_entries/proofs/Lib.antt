@@ -1,1 +1,3 @@
 -- lemmas
+pub mod Examples
+pub mod Fits

@@ -20,7 +20,8 @@ mbr_kind part = unwrap_or part.partition_type 0x83
 
 -- the entry of a partition in a master boot record, in sectors of 512 bytes
 abbrev pub mbr_entry_of : PartitionSection → ℕ → ℕ → MbrEntry
-mbr_entry_of part at size = record { active = part.bootable; kind = mbr_kind part; first = at / 512; count = size / 512 }
+mbr_entry_of part at size =
+    record { active = part.bootable; kind = mbr_kind part; first = at / 512; count = size / 512 }
 
 -- a logical partition whose boot record stands at `head`, in sectors of 512 bytes
 abbrev pub logical_spec_of : PartitionSection → ℕ → ℕ → ℕ → LogicalSpec
