@@ -1,26 +1,19 @@
 -- The GUID partition table of an image that is placed.
-use Rattle.std.specs.Prelude.{◌≡◌, ◌≢◌, ℕ, suc, ◌+◌, ◌-◌, ◌*◌, ◌/◌, ◌%◌, ◌^◌, ◌<◌, ◌≤◌, ◌⊎◌, max, Bool, true, false, ◌&&◌, nat_lt, if◌then◌else◌, List, [], ◌∷◌, Option, None, Some, IfSome, All, filter, length, map, slice_index_or, unwrap_or}
+use Rattle.std.specs.Prelude.{◌≡◌, ℕ, ◌+◌, ◌*◌, ◌≤◌, ◌⊎◌, max, Bool, true, false, ◌&&◌, nat_lt, if◌then◌else◌, List, [], ◌∷◌, All, length, map}
 use Rattle.std.specs.List.{AllZip}
-use Rattle.std.proofs.Common.{refl, ap, sym, subst, arith, lit≤, inl, inr, ◌∙◌}
+use Rattle.std.proofs.Common.{refl, sym, subst, arith, inl, inr, ◌∙◌}
 use Rattle.std.proofs.lemmas.Bool.{ltb-false}
 use Rattle.std.proofs.lemmas.List.Elements.{All-from_recursion}
 use Rattle.std.proofs.lemmas.Nat.Gcd.{dvd-zero, mod-eq-zero_of_dvd}
-use native.Mathlib.Nat.{dvd-add, dvd-mul_left, dvd_refl}
+use native.Mathlib.Nat.{dvd-add, dvd-mul_left}
 use Prim.Native.Nat.{◌∣◌}
-use Rattle.base_fields.proofs.Rounding.{round_fits}
 use Rattle.base_fields.specs.declared.spans.TableKind.{TableKind}
-use Rattle.base_fields.specs.declared.spans.TableKind.TheVariants as table
-use Rattle.conf_keys.specs.Within.{IsSizeFrom}
-use Rattle.conf_keys.specs.declared.conf.PartitionSection.{PartitionSection}
-use Rattle.gpt_table.specs.Gpt.{EntryFits, GptFits, HasRoom, front_end, slot_of, no_entry}
-use Rattle.gpt_table.specs.GptParts.{IsApart}
+use Rattle.gpt_table.specs.Gpt.{EntryFits, GptFits, front_end, no_entry}
 use Rattle.gpt_table.specs.declared.entry.GptEntry.{GptEntry}
-use Rattle.gpt_table.specs.declared.table.GptSpec.{GptSpec}
 use Rattle.image_layout.specs.IsLayout.{IsGuid}
 use Rattle.image_specs.specs.Identifiers.{HasIdentifiers}
 use Rattle.image_specs.specs.declared.specs.ImageSpec.{ImageSpec}
 use Rattle.placement.specs.Layouts.{guid_entries, guid_spec, image_size, layout_in, needs_of}
-use Rattle.placement.specs.Said.{too_many_entries}
 use Rattle.placement_rules.specs.Frames.{backup_len, frame_as, has_guid, has_table}
 use Rattle.placement_rules.specs.Places.{Stood, end_of, greatest, least_multiple}
 use Rattle.placement_rules.specs.Terms.{in_tables}
@@ -29,9 +22,10 @@ use Rattle.table_entries.proofs.Fits.{gpt_entry_fits, length-disk_id}
 use Rattle.table_entries.specs.Entries.{gpt_entry_of}
 use Rattle.placement_tables.proofs.Accepted.{IsAccepted}
 use Rattle.placement_tables.proofs.Entries.{entries_all, tabled_count}
-use Rattle.placement_tables.proofs.GuidNumbers.{AreNumbers, HasRoomFor, guid_numbers}
+use Rattle.placement_tables.proofs.GuidNumbers.{HasRoomFor, guid_numbers}
 use Rattle.placement_tables.proofs.Refusals.{provided_none}
 use Rattle.placement_tables.proofs.Sound.{IsFitting}
+use Rattle.placement_tables.proofs.Standing.{chosen}
 
 -- the frame of an image with a GUID partition table
 pub record IsGuidFrame (frame : Frame) : Type 0 where
@@ -53,43 +47,50 @@ even_backup frame sector = even frame.sector frame.backup sector
 even_needs : (frame : Frame) (ss : List Stood) → IsGuidFrame frame → frame.sector ∣ needs_of frame ss
 even_needs frame ss is =
     dvd-add frame.sector
-    (subst (λ (z : ℕ). frame.sector ∣ least_multiple z (greatest (frame.front ∷ map end_of ss))) (sym is.step) (dvd-mul_left frame.sector _))
+    (subst (λ (z : ℕ). frame.sector ∣ least_multiple z (greatest (frame.front ∷ map end_of ss))) (sym is.step)
+    (dvd-mul_left frame.sector _))
     (even_backup frame is.sector)
-
-chosen : (P : ℕ → Type 0) (n : Option ℕ) (other : ℕ) → IfSome n P → P other → P (unwrap_or n other)
-chosen P None other h g = g
-chosen P (Some n) other h g = h
 
 -- a multiple that isn't below
 not_below : (z n : ℕ) → (z ≡ 512) ⊎ (z ≡ 4096) → n ≤ least_multiple z n
 not_below z n (inl e) = rw e (omega arith)
 not_below z n (inr e) = rw e (omega arith)
 
-front_needed : (frame : Frame) (ss : List Stood) → IsGuidFrame frame → frame.front + backup_len frame ≤ needs_of frame ss
+front_needed :
+    (frame : Frame) (ss : List Stood) → IsGuidFrame frame → frame.front + backup_len frame ≤ needs_of frame ss
 front_needed frame ss is =
     let most = greatest (frame.front ∷ map end_of ss) in
     let above : most ≤ least_multiple frame.sector most = not_below frame.sector most is.sector in
-    let stepped : most ≤ least_multiple (if has_table frame.table then frame.sector else 1) most = subst (λ (z : ℕ). most ≤ least_multiple z most) (sym is.step) above in
+    let stepped : most ≤ least_multiple (if has_table frame.table then frame.sector else 1) most =
+    subst (λ (z : ℕ). most ≤ least_multiple z most) (sym is.step) above in
     let first : frame.front ≤ most = omega arith in
     omega (arith, stepped, first)
 
-pub has_room : (spec : ImageSpec) (frame : Frame) (ss : List Stood) → IsGuidFrame frame → has_table frame.table ≡ true → IsAccepted spec frame ss → HasRoomFor frame.sector frame.entries_at (image_size frame ss) frame.backup
+pub has_room :
+    (spec : ImageSpec) (frame : Frame) (ss : List Stood) → IsGuidFrame frame → has_table frame.table ≡ true
+    → IsAccepted spec frame ss → HasRoomFor frame.sector frame.entries_at (image_size frame ss) frame.backup
 has_room spec frame ss is table accepted =
     let needed = front_needed frame ss is in
     let front = is.front in
     record {
       even_at = mod-eq-zero_of_dvd frame.sector (accepted.even_entries table);
-      even = mod-eq-zero_of_dvd frame.sector (chosen (λ n. frame.sector ∣ n) frame.size (needs_of frame ss) (accepted.even_size table) (even_needs frame ss is));
+      even =
+          mod-eq-zero_of_dvd frame.sector
+          (chosen (λ n. frame.sector ∣ n) frame.size (needs_of frame ss) (accepted.even_size table)
+          (even_needs frame ss is));
       behind = is.behind;
       most = accepted.size;
-      room = rw (← front) (omega (arith, needed, accepted.needs));
+      front = rw (← front) (omega (arith, needed, accepted.needs));
+      back = λ is.
+          let whole : backup_len frame ≡ frame.sector + 16384 = rw is refl in
+          rw (← front) (omega (arith, needed, accepted.needs, whole));
     }
 
 -- ---- the table
 
 few_entries :
-    (entries : List GptEntry) (guid : Bool) (count : ℕ) → length entries ≡ count → guid ≡ true → (guid && nat_lt 128 count) ≡ false
-    → length entries ≤ 128
+    (entries : List GptEntry) (guid : Bool) (count : ℕ) → length entries ≡ count → guid ≡ true
+    → (guid && nat_lt 128 count) ≡ false → length entries ≤ 128
 few_entries entries true count same is h = let few = ltb-false 128 count h in omega arith
 few_entries entries false count same is h = absurd (cc)
 
@@ -99,19 +100,22 @@ entries_fit :
 entries_fit spec t ss fitting =
     All-from_recursion EntryFits (guid_entries spec (frame_as spec t) ss)
     (entries_all EntryFits (IsFitting spec t) (λ s. s.terms.tabled)
-     (λ part s. gpt_entry_of spec.name part s.place.at s.place.size (frame_as spec t).sector) spec.keys.parts ss fitting
-     (λ part s is tabled.
-         let far = is.stands.far in
-         gpt_entry_fits spec.name part s.place.at s.place.size (frame_as spec t).sector is.within is.identifiers.own is.identifiers.kind (omega arith)))
+    (λ part s. gpt_entry_of spec.name part s.place.at s.place.size (frame_as spec t).sector) spec.keys.parts ss fitting
+    (λ part s is tabled.
+    let far = is.stands.far in
+    gpt_entry_fits spec.name part s.place.at s.place.size (frame_as spec t).sector is.within is.identifiers.own
+    is.identifiers.kind (omega arith)))
 
 pub is_guid :
-    (spec : ImageSpec) (t : TableKind) (ss : List Stood) → IsGuidFrame (frame_as spec t) → has_table t ≡ true → has_guid t ≡ true
-    → HasIdentifiers spec.keys → AllZip (IsFitting spec t) spec.keys.parts ss → IsAccepted spec (frame_as spec t) ss
-    → (layout_in spec (frame_as spec t) ss).logical ≡ []
+    (spec : ImageSpec) (t : TableKind) (ss : List Stood) → IsGuidFrame (frame_as spec t) → has_table t ≡ true
+    → has_guid t ≡ true → HasIdentifiers spec.keys → AllZip (IsFitting spec t) spec.keys.parts ss
+    → IsAccepted spec (frame_as spec t) ss → (layout_in spec (frame_as spec t) ss).logical ≡ []
     → IsGuid (layout_in spec (frame_as spec t) ss) (guid_spec spec (frame_as spec t) ss)
 is_guid spec t ss frame table guid identifiers fitting accepted none =
     let f = frame_as spec t in
-    let n = guid_numbers f.sector f.entries_at (image_size f ss) f.backup frame.sector (has_room spec f ss frame table accepted) in
+    let n =
+    guid_numbers f.sector f.entries_at (image_size f ss) f.backup frame.sector
+    (has_room spec f ss frame table accepted) in
     let g = guid_spec spec f ss in
     let fits : GptFits g = record {
       sector = frame.sector;
@@ -135,8 +139,12 @@ is_guid spec t ss frame table guid identifiers fitting accepted none =
       logical = none;
     }
 
-pub same_front : (spec : ImageSpec) (t : TableKind) (ss : List Stood) → IsGuidFrame (frame_as spec t) → has_table t ≡ true → IsAccepted spec (frame_as spec t) ss → (frame_as spec t).front ≡ front_end (guid_spec spec (frame_as spec t) ss)
+pub same_front :
+    (spec : ImageSpec) (t : TableKind) (ss : List Stood) → IsGuidFrame (frame_as spec t) → has_table t ≡ true
+    → IsAccepted spec (frame_as spec t) ss → (frame_as spec t).front ≡ front_end (guid_spec spec (frame_as spec t) ss)
 same_front spec t ss frame table accepted =
     let f = frame_as spec t in
-    let n = guid_numbers f.sector f.entries_at (image_size f ss) f.backup frame.sector (has_room spec f ss frame table accepted) in
+    let n =
+    guid_numbers f.sector f.entries_at (image_size f ss) f.backup frame.sector
+    (has_room spec f ss frame table accepted) in
     frame.front ∙ sym n.front_end

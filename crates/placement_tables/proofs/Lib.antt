@@ -7,5 +7,8 @@ pub mod Guid
 pub mod GuidNumbers
 pub mod Recorded
 pub mod Refusals
+pub mod Slots
 pub mod Sound
 pub mod Standing
+pub mod Tables
+pub mod Tabled

@@ -1,5 +1,5 @@
 -- What is known where no rule refuses.
-use Rattle.std.specs.Prelude.{◌≡◌, ℕ, zero, suc, ◌+◌, ◌≤◌, ◌<◌, ◌%◌, Bool, true, false, not, ◌==◌, nat_lt, Option, None, Some, IfSome, option_map}
+use Rattle.std.specs.Prelude.{◌≡◌, ℕ, zero, suc, ◌≤◌, ◌<◌, ◌%◌, Bool, true, false, ◌==◌, Option, None, Some, IfSome, option_map}
 use Rattle.std.specs.Option.{option_or}
 use Rattle.std.proofs.Common.{refl, arith, inl, inr}
 use Rattle.std.proofs.lemmas.Bool.{eqb-true, ltb-false, not-false, cases_lt, or_parts}

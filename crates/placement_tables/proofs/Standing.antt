@@ -1,17 +1,14 @@
 -- Where a partition stands that no rule refuses by its own numbers.
-use Rattle.std.specs.Prelude.{◌≡◌, ℕ, ◌+◌, ◌-◌, ◌*◌, ◌/◌, ◌^◌, ◌<◌, ◌≤◌, Bool, true, false, ◌&&◌, ◌==◌, if◌then◌else◌, List, Option, None, Some, IfSome, unwrap_or, option_map}
-use Rattle.std.specs.Option.{option_or}
-use Rattle.std.proofs.Common.{refl, ap, subst, arith, inl, inr}
-use Rattle.std.proofs.lemmas.Bool.{eqb-false, and_parts, cases_Bool}
+use Rattle.std.specs.Prelude.{◌≡◌, ℕ, ◌+◌, ◌-◌, ◌/◌, ◌^◌, ◌<◌, ◌≤◌, Bool, true, false, ◌&&◌, ◌==◌, if◌then◌else◌, List, Option, None, Some, IfSome, unwrap_or, option_map}
+use Rattle.std.proofs.Common.{refl, arith}
+use Rattle.std.proofs.lemmas.Bool.{eqb-false}
 use Rattle.std.proofs.lemmas.Nat.Gcd.{dvd_trans, dvd-zero, le_of_dvd}
 use native.Mathlib.Nat.{dvd-add, dvd-mul_left, dvd-sub, dvd_refl}
 use Prim.Native.Nat.{◌∣◌}
 use Rattle.conf_values.specs.declared.values.Hole.{Hole}
 use Rattle.placement_rules.specs.Faults.{above, bad_autoresize, bad_holes, below, misaligned, most_bytes, most_sectors, no_size, off_multiple, own_fault, too_far, too_large, where_so}
-use Rattle.placement_rules.specs.Frames.{backup_len}
 use Rattle.placement_rules.specs.Places.{Stood, at_from, end_of, free_from, least_multiple, room_in, room_of, size_of, stood_at}
 use Rattle.placement_rules.specs.declared.terms.Frame.{Frame}
-use Rattle.placement_rules.specs.declared.terms.Place.{Place}
 use Rattle.placement_rules.specs.declared.terms.Terms.{Terms}
 use Rattle.placement_tables.proofs.Refusals.{above_none, below_none, mapped_none, multiple_none, or_none, provided_none, where_none}
 
@@ -55,7 +52,7 @@ aligned frame t h =
 
 -- ---- places
 
-chosen : (P : ℕ → Type 0) (n : Option ℕ) (other : ℕ) → IfSome n P → P other → P (unwrap_or n other)
+pub chosen : (P : ℕ → Type 0) (n : Option ℕ) (other : ℕ) → IfSome n P → P other → P (unwrap_or n other)
 chosen P None other h g = g
 chosen P (Some n) other h g = h
 
@@ -72,7 +69,8 @@ behind_free : (least align : ℕ) (logical : Bool) → logical ≡ true → alig
 behind_free least align true is = omega arith
 behind_free least align false is = absurd (cc)
 
-behind_align : (frame : Frame) (highest : ℕ) (t : Terms) → IsAligned frame t → t.logical ≡ true → t.align ≤ at_from highest t
+behind_align :
+    (frame : Frame) (highest : ℕ) (t : Terms) → IsAligned frame t → t.logical ≡ true → t.align ≤ at_from highest t
 behind_align frame highest t a is =
     chosen (λ n. t.align ≤ n) t.offset (free_from highest t) (a.behind is)
     (behind_free (least_multiple t.align highest) t.align t.logical is)
@@ -87,13 +85,15 @@ picked : {A : Type 0} (P : A → Type 0) (test : Bool) (x y : A) → P x → P y
 picked P true x y h g = h
 picked P false x y h g = g
 
-even_size : (frame : Frame) (t : Terms) (at : ℕ) → IsAligned frame t → t.tabled ≡ true → t.align ∣ at → frame.sector ∣ size_of frame t at
+even_size :
+    (frame : Frame) (t : Terms) (at : ℕ) → IsAligned frame t → t.tabled ≡ true → t.align ∣ at
+    → frame.sector ∣ size_of frame t at
 even_size frame t at a is h =
     picked (λ n. frame.sector ∣ n) t.autoresize (room_of frame t at) (unwrap_or t.size (least_multiple t.align t.len))
     (picked (λ n. frame.sector ∣ n) t.last (room_in frame frame.size t at) 0
-     (dvd_trans frame.sector (a.align is) (even_room frame frame.size t at h)) (dvd-zero frame.sector))
+    (dvd_trans frame.sector (a.align is) (even_room frame frame.size t at h)) (dvd-zero frame.sector))
     (chosen (λ n. frame.sector ∣ n) t.size (least_multiple t.align t.len) (a.size is)
-     (dvd_trans frame.sector (a.align is) (dvd-mul_left t.align _)))
+    (dvd_trans frame.sector (a.align is) (dvd-mul_left t.align _)))
 
 sized : (tabled : Bool) (size : ℕ) → (tabled && size == 0) ≡ false → tabled ≡ true → 0 < size
 sized true size h is = let nonzero = eqb-false size 0 h in omega arith
@@ -136,7 +136,9 @@ bounded s h =
     record {
       bytes = above_none most_bytes (end_of s) two.0;
       narrow = λ is.
-          let last = or_none (above most_sectors (end_of s / 512 - 1)) (above most_sectors (s.place.size / 512)) (where_none s.terms.narrow _ two.1 is) in
+          let last =
+          or_none (above most_sectors (end_of s / 512 - 1)) (above most_sectors (s.place.size / 512))
+          (where_none s.terms.narrow _ two.1 is) in
           (above_none most_sectors (end_of s / 512 - 1) last.0, above_none most_sectors (s.place.size / 512) last.1);
     }
 

@@ -6,9 +6,9 @@ use Rattle.image_specs.specs.declared.specs.ImageSpec.{ImageSpec}
 use Rattle.placement.specs.Layouts.{layout_of}
 use Rattle.placement.specs.Said.{refusal}
 
--- whatever the keys of an image are, with the length of the file of each source: where nothing refuses its placing, its layout
--- has the tables of its kind, whose entries fit their fields and lie apart
+-- whatever the keys of an image are, and the length of the file of each source: where nothing refuses its placing, its
+-- layout has the tables of its kind, whose entries fit their fields and lie apart
 abbrev pub PlacedIsTabled : Type 0
 PlacedIsTabled =
-    (spec : ImageSpec) (lens : List ℕ) → IsSpec spec → length lens ≡ length spec.sources → refusal spec lens ≡ None
-    → IsTabled (layout_of spec lens).table (layout_of spec lens)
+    (spec : ImageSpec) (lens : List ℕ) → IsSpec spec → length lens ≡ length spec.sources
+    → refusal spec lens ≡ None → IsTabled (layout_of spec lens).table (layout_of spec lens)
