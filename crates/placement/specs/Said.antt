@@ -1,12 +1,11 @@
 -- What placing an image gives: the first refusal in its order, or the layout.
-use Rattle.std.specs.Prelude.{◌≡◌, ℕ, ◌<◌, Bool, ◌&&◌, nat_lt, if◌then◌else◌, List, [], ◌∷◌, Option, Some, None, Result, codes, length, option_map, slice_index_or, unwrap_or}
+use Rattle.std.specs.Prelude.{◌≡◌, ℕ, ◌<◌, Bool, ◌&&◌, nat_lt, if◌then◌else◌, List, [], ◌∷◌, Option, Some, None, codes, length, option_map, slice_index_or, unwrap_or}
 use Rattle.std.specs.List.{position}
 use Rattle.base_fields.specs.Results.{provided}
-use Rattle.image_layout.specs.declared.layout.Layout.{Layout}
 use Rattle.image_specs.specs.declared.specs.ImageSpec.{ImageSpec}
 use Rattle.placement_rules.specs.Faults.{◌or◌, first_fault, most_bytes, off_multiple, where_so}
 use Rattle.placement_rules.specs.Frames.{frame_of, has_guid, has_table}
-use Rattle.placement.specs.Layouts.{is_primary, layout_of, needs_of}
+use Rattle.placement.specs.Layouts.{is_primary, needs_of}
 use Rattle.placement_rules.specs.Places.{Stood, end_of, greatest, stood}
 use Rattle.placement_rules.specs.Terms.{in_tables, names_of}
 use Rattle.placement_rules.specs.declared.faults.Meeting.{Meeting}

@@ -113,7 +113,7 @@ fn check_extended(alloc: Global, spec: &ImageSpec, placed: &Earlier) -> Result<(
 }
 
 /// Where an image ends that has no size of its own.
-fn needs_of(frame: &Frame, placed: &Earlier) -> u64
+pub fn needs_of(frame: &Frame, placed: &Earlier) -> u64
     requires { IsFrame frame.now }
     ensures { result ≡ needs_of frame.now placed.now }
 {
