@@ -33,8 +33,8 @@ pub record IsChained (spec : LogicalSpec) : Type 0 where
 abbrev pub IsSector : ℕ → Type 0
 IsSector n = (n ≡ 512) ⊎ (n ≡ 4096)
 
--- what the rules look at of a partition of a table of this kind: one whose sectors have 32 bits is in the table, and so is a
--- logical one; in an mbr each of the table has such sectors
+-- what the rules look at of a partition of an image with a table of this kind: one whose sectors have 32 bits is in the
+-- table; a logical one has such sectors, and in an mbr each one of the table
 pub record IsTermed (kind : TableKind) (t : Terms) : Type 0 where
   pub tabled : t.narrow ≡ true → t.tabled ≡ true
   pub narrow : t.logical ≡ true → t.narrow ≡ true

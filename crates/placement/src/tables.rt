@@ -50,7 +50,7 @@ pub fn hybrid_for(
     }
 }
 
-/// The master boot record, where there is a table. `logical` and `hybrid` are those of the image, and `size` is its size.
+/// The master boot record, where there is a table. `logical`, `hybrid` and `size` are those of the image.
 pub fn record_for(
     alloc: Global,
     spec: &ImageSpec,
