@@ -1,1 +1,7 @@
 -- lemmas
+pub mod Chaining
+pub mod Faults
+pub mod Listing
+pub mod PartLists
+pub mod Settled
+pub mod Slots

@@ -1,5 +1,5 @@
 -- The layout of an image whose partitions stand in their places: its size, its tables and its parts.
-use Rattle.std.specs.Prelude.{ℕ, ◌+◌, ◌-◌, ◌/◌, Bool, true, false, not, ◌&&◌, if◌then◌else◌, List, [], ◌∷◌, ◌++◌, Option, Some, None, length, map, replicate, take, unwrap_or}
+use Rattle.std.specs.Prelude.{ℕ, ◌+◌, ◌-◌, ◌/◌, Bool, false, not, ◌&&◌, if◌then◌else◌, List, [], ◌∷◌, ◌++◌, Option, Some, None, map, replicate, take, unwrap_or}
 use Rattle.base_fields.specs.declared.spans.Span.{Span}
 use Rattle.base_fields.specs.declared.spans.TableKind.{TableKind}
 use Rattle.base_fields.specs.declared.spans.TableKind.TheVariants as table
@@ -57,9 +57,13 @@ logical_specs parts ss =
 abbrev pub hybrid_entries : List PartitionSection → List Stood → List MbrEntry
 hybrid_entries parts ss = entries_for (λ s. s.terms.narrow) (λ part s. mbr_entry_of part s.place.at s.place.size) parts ss
 
+-- those of the image of this name, in sectors of z bytes
+abbrev pub guid_entries_in : List ℕ → ℕ → List PartitionSection → List Stood → List GptEntry
+guid_entries_in image z parts ss =
+    entries_for (λ s. s.terms.tabled) (λ part s. gpt_entry_of image part s.place.at s.place.size z) parts ss
+
 abbrev pub guid_entries : ImageSpec → Frame → List Stood → List GptEntry
-guid_entries spec frame ss =
-    entries_for (λ s. s.terms.tabled) (λ part s. gpt_entry_of spec.name part s.place.at s.place.size frame.sector) spec.keys.parts ss
+guid_entries spec frame ss = guid_entries_in spec.name frame.sector spec.keys.parts ss
 
 -- ---- tables
 

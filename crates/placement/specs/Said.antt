@@ -1,12 +1,11 @@
 -- What placing an image gives: the first refusal in its order, or the layout.
-use Rattle.std.specs.Prelude.{ℕ, Bool, ◌&&◌, nat_lt, if◌then◌else◌, List, [], ◌∷◌, Option, Some, None, Result, codes, length, option_map, slice_index_or, unwrap_or}
+use Rattle.std.specs.Prelude.{◌≡◌, ℕ, ◌<◌, Bool, ◌&&◌, nat_lt, if◌then◌else◌, List, [], ◌∷◌, Option, Some, None, codes, length, option_map, slice_index_or, unwrap_or}
 use Rattle.std.specs.List.{position}
 use Rattle.base_fields.specs.Results.{provided}
-use Rattle.image_layout.specs.declared.layout.Layout.{Layout}
 use Rattle.image_specs.specs.declared.specs.ImageSpec.{ImageSpec}
 use Rattle.placement_rules.specs.Faults.{◌or◌, first_fault, most_bytes, off_multiple, where_so}
 use Rattle.placement_rules.specs.Frames.{frame_of, has_guid, has_table}
-use Rattle.placement.specs.Layouts.{is_primary, layout_of, needs_of}
+use Rattle.placement.specs.Layouts.{is_primary, needs_of}
 use Rattle.placement_rules.specs.Places.{Stood, end_of, greatest, stood}
 use Rattle.placement_rules.specs.Terms.{in_tables, names_of}
 use Rattle.placement_rules.specs.declared.faults.Meeting.{Meeting}
@@ -108,3 +107,19 @@ refusal_in spec frame ss = image_first spec frame or partition_fault spec frame 
 -- why an image isn't placed
 abbrev pub refusal : ImageSpec → List ℕ → Option PlaceFault
 refusal spec lens = refusal_in spec (frame_of spec) (stood spec lens)
+
+-- ---- what is answered
+
+-- the fault that is said, or want of memory
+abbrev pub IsFaultOf : Option PlaceFault → PlaceFault → Type 0
+IsFaultOf said fault.NoMemory = Unit {0}
+IsFaultOf said found = said ≡ Some found
+
+-- an earlier partition that is met has a name
+abbrev pub IsKnown : ℕ → Meeting → Type 0
+IsKnown count (meeting.Earlier k) = k < count
+IsKnown count _ = Unit {0}
+
+abbrev pub IsFaultKnown : ℕ → PartFault → Type 0
+IsFaultKnown count (part_fault.Meets met) = IsKnown count met
+IsFaultKnown count _ = Unit {0}

@@ -81,7 +81,8 @@ impl Earlier {
         self.greatest_end
     }
 
-    /// The number of the first with which a later one clashes. Takes no memory, and goes over them only where there is one.
+    /// The number of the first with which a later one clashes. Takes no memory, and goes over them only
+    /// where there is one.
     pub fn first_clash(&self, claim: &Claim) -> Option<usize>
         ensures { result ≡ first_clash claim.now self.now }
     {
