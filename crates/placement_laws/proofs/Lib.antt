@@ -1,0 +1,6 @@
+-- lemmas
+pub mod Exactly
+pub mod Images
+pub mod Lists
+pub mod Multiples
+pub mod Spots
