@@ -58,7 +58,7 @@ aligns_are spec lens is = elim is.kind [
 
 -- ---- holes
 
-from_count : (spec : ImageSpec) (t : TableKind) (before parts : List PartitionSection) (lens : List ℕ) → length lens ≡ length parts → length (terms_from spec t before parts lens) ≡ length parts
+pub from_count : (spec : ImageSpec) (t : TableKind) (before parts : List PartitionSection) (lens : List ℕ) → length lens ≡ length parts → length (terms_from spec t before parts lens) ≡ length parts
 from_count spec t before [] lens h = refl
 from_count spec t before (part ∷ parts) [] h = absurd (omega arith)
 from_count spec t before (part ∷ parts) (len ∷ lens) h =

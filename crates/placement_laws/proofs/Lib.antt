@@ -3,4 +3,5 @@ pub mod Exactly
 pub mod Images
 pub mod Lists
 pub mod Multiples
+pub mod Numbers
 pub mod Spots

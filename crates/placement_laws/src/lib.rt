@@ -4,4 +4,4 @@
 
 mod laws;
 
-pub use laws::{no_place_is_earlier, partitions_are_placed};
+pub use laws::{no_place_is_earlier, partitions_are_placed, terms_by_number};
