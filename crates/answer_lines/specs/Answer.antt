@@ -1,8 +1,8 @@
 -- The status and the error line of each answer, from its row in the table of answers.
-use Rattle.std.specs.Prelude.{ℕ, List, [], ◌∷◌, codes, decimal}
+use Rattle.std.specs.Prelude.{ℕ, List, [], ◌∷◌, ◌++◌, codes, decimal}
 use Rattle.hex.specs.Hex.{encode_lower}
-use Rattle.answer_lines.specs.Line.{shown_name}
-use Rattle.answer_lines.specs.Row.{AnswerRow, error_of}
+use Rattle.line_parts.specs.Line.{shown_flag, shown_name}
+use Rattle.line_parts.specs.Row.{AnswerRow, device_name, error_of, job_fields}
 use Rattle.answer_lines.specs.declared.answer.Answer.{Answer}
 use Rattle.answer_lines.specs.declared.answer.Answer.TheVariants.{Done, Usage, BadText, UnknownKey}
 use Rattle.answer_lines.specs.declared.answer.Answer.TheVariants.{BadValue, Unset, DeepInclude}
@@ -21,11 +21,11 @@ use Rattle.answer_lines.specs.declared.answer.Answer.TheVariants.{SumDiffers, No
 use Rattle.answer_lines.specs.declared.answer.Answer.TheVariants.{BadSum, BadChain, BadChunk}
 use Rattle.answer_lines.specs.declared.answer.Answer.TheVariants.{Counts, Short}
 use Rattle.answer_lines.specs.declared.answer.Answer.TheVariants.{BadMagic, Compressed}
-use Rattle.answer_lines.specs.declared.answer.Answer.TheVariants.{TargetTooSmall, NoJournal}
-use Rattle.answer_lines.specs.declared.answer.Answer.TheVariants.{TooManyUnits, ImageStale}
+use Rattle.answer_lines.specs.declared.answer.Answer.TheVariants.{TargetTooSmall, JournalHeld, NoJournal}
+use Rattle.answer_lines.specs.declared.answer.Answer.TheVariants.{JournalForeign, TooManyUnits, ImageStale}
 use Rattle.answer_lines.specs.declared.answer.Answer.TheVariants.{SizeDiffers, NoRoom, RangeDiffers}
 use Rattle.answer_lines.specs.declared.answer.Answer.TheVariants.{TargetDiffers}
-use Rattle.answer_lines.specs.declared.answer.Answer.TheVariants.{SourceShort, FileFault, NandFault}
+use Rattle.answer_lines.specs.declared.answer.Answer.TheVariants.{SourceShort, FileFault, DeviceFault, NandFault}
 use Rattle.answer_lines.specs.declared.answer.Answer.TheVariants.{NoMemory, PrintFault, NotBuilt}
 
 -- a field: its key and the bytes of its value
@@ -110,7 +110,11 @@ row_of (BadMagic at) = row 5 (codes "BadMagic") (counted (codes "at") at ∷ [])
 row_of (Compressed name) = row 6 (codes "Compressed") (named (codes "name") name ∷ [])
 row_of (TargetTooSmall has needs) = row 6 (codes "TargetTooSmall")
     (counted (codes "has") has ∷ counted (codes "needs") needs ∷ [])
+row_of (JournalHeld kept finished) = row 6 (codes "JournalHeld")
+    (job_fields (codes "kept") kept ++ (codes "finished", shown_flag finished) ∷ [])
 row_of NoJournal = row 6 (codes "NoJournal") []
+row_of (JournalForeign kept given size) = row 6 (codes "JournalForeign")
+    (job_fields (codes "kept") kept ++ job_fields (codes "given") given ++ counted (codes "length") size ∷ [])
 row_of (TooManyUnits count limit) = row 6 (codes "TooManyUnits")
     (counted (codes "count") count ∷ counted (codes "limit") limit ∷ [])
 row_of (ImageStale has needs) = row 6 (codes "ImageStale")
@@ -128,6 +132,7 @@ row_of (TargetDiffers range want got) = row 7 (codes "TargetDiffers")
 row_of (SourceShort name at) = row 8 (codes "SourceShort")
     (named (codes "name") name ∷ counted (codes "at") at ∷ [])
 row_of FileFault = row 9 (codes "FileFault") []
+row_of (DeviceFault dev) = row 10 (codes "DeviceFault") ((codes "dev", device_name dev) ∷ [])
 row_of NandFault = row 10 (codes "NandFault") []
 row_of NoMemory = row 11 (codes "NoMemory") []
 row_of PrintFault = row 12 [] []

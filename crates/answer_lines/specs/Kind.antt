@@ -1,6 +1,6 @@
 -- How an answer stands to what was wanted. Words and lemmas on answers go by the kind.
 use Rattle.answer_lines.specs.declared.answer.Answer.{Answer}
-use Rattle.answer_lines.specs.declared.answer.Answer.TheVariants.{Done, FileFault, NandFault}
+use Rattle.answer_lines.specs.declared.answer.Answer.TheVariants.{Done, FileFault, DeviceFault, NandFault}
 use Rattle.answer_lines.specs.declared.answer.Answer.TheVariants.{NoMemory, PrintFault}
 use Rattle.answer_lines.specs.declared.answer.Report.{Report}
 
@@ -17,6 +17,7 @@ abbrev pub kind_of : Answer → Kind
 kind_of (Done report) = Finished report
 kind_of PrintFault = LineFailed
 kind_of FileFault = Counted
+kind_of (DeviceFault dev) = Counted
 kind_of NandFault = Counted
 kind_of NoMemory = Counted
 kind_of answer = Refused

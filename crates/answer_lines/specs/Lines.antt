@@ -1,7 +1,7 @@
 -- The lines of what is done.
 use Rattle.std.specs.Prelude.{ℕ, Bool, List, [], ◌∷◌, ◌++◌, codes, decimal}
 use Rattle.sparse_reader.specs.declared.view.SparseView.{SparseView}
-use Rattle.answer_lines.specs.Line.{shown_flag, shown_name, spelled, with_fields}
+use Rattle.line_parts.specs.Line.{shown_flag, shown_name, spelled, with_fields}
 
 -- a word with numbers behind it, each with its key
 abbrev pub numbers : List ℕ → List (List ℕ × ℕ) → List ℕ

@@ -1,7 +1,9 @@
 ghost use Rattle.std.specs.Prelude.{◌≡◌, ◌≤◌};
 
-use crate::row::{Row, bare, digest, number, one, text, three, two};
 use base_fields::Name;
+use bench::Dev;
+use journal_format::JobId;
+use line_parts::{Row, bare, device, digest, flag, job, number, one, text, three, two};
 
 /// The numbers of the last line of a command that is done.
 #[derive(Clone, Copy, Debug, PartialEq, Eq)]
@@ -256,8 +258,19 @@ pub enum Answer {
         has: u64,
         needs: u64,
     },
+    /// The journal is held for a job, which `finished` tells to be this one with all its units and ranges recorded.
+    JournalHeld {
+        kept: JobId,
+        finished: bool,
+    },
     /// The journal isn't held, so there is nothing to go on with.
     NoJournal,
+    /// The journal, of so many bytes, is held for another job than the given one, or is too short for its marks.
+    JournalForeign {
+        kept: JobId,
+        given: JobId,
+        length: u64,
+    },
     /// A copy would have more units than the limit.
     TooManyUnits {
         count: u64,
@@ -298,6 +311,10 @@ pub enum Answer {
     },
     /// A call on the files failed.
     FileFault,
+    /// A call on that device failed.
+    DeviceFault {
+        dev: Dev,
+    },
     /// A call on a NAND device failed.
     NandFault,
     /// Memory was refused.
@@ -312,7 +329,7 @@ pub enum Answer {
 
 impl Answer {
     ghost use Rattle.answer_lines.specs.Answer.{row_of, status_of};
-    ghost use Rattle.answer_lines.specs.Row.{row_room, shown_row};
+    ghost use Rattle.line_parts.specs.Row.{row_room, shown_row};
 
     /// The status with which the program ends.
     pub fn status(&self) -> u8
@@ -485,7 +502,24 @@ impl Answer {
                 number("has", *has),
                 number("needs", *needs),
             ),
+            Answer::JournalHeld { kept, finished } => two(
+                6,
+                "JournalHeld",
+                job("kept", kept),
+                flag("finished", *finished),
+            ),
             Answer::NoJournal => bare(6, "NoJournal"),
+            Answer::JournalForeign {
+                kept,
+                given,
+                length,
+            } => three(
+                6,
+                "JournalForeign",
+                job("kept", kept),
+                job("given", given),
+                number("length", *length),
+            ),
             Answer::TooManyUnits { count, limit } => two(
                 6,
                 "TooManyUnits",
@@ -532,6 +566,7 @@ impl Answer {
                 number("at", *at),
             ),
             Answer::FileFault => bare(9, "FileFault"),
+            Answer::DeviceFault { dev } => one(10, "DeviceFault", device("dev", *dev)),
             Answer::NandFault => bare(10, "NandFault"),
             Answer::NoMemory => bare(11, "NoMemory"),
             Answer::PrintFault => bare(12, ""),

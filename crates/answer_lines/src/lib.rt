@@ -3,12 +3,10 @@
 #![tactic(auto)]
 
 mod answer;
-mod line;
 mod lines;
-mod row;
 
 pub use answer::{Answer, Report};
-pub use line::LINE_ROOM;
+pub use line_parts::LINE_ROOM;
 pub use lines::{
     built_line, copied_line, cut_line, demo_line, error_line, expanded_line, forgotten_line,
     gang_line, image_line, mapped_line, nand_line, sparse_line, verified_line,

@@ -1,5 +1,5 @@
 ghost use Rattle.std.specs.Prelude.{◌≤◌, length};
-ghost use Rattle.answer_lines.specs.Line.{PutsLine};
+ghost use Rattle.line_parts.specs.Line.{PutsLine};
 ghost use Rattle.answer_lines.specs.Answer.{error_text};
 ghost use Rattle.answer_lines.specs.Lines.{built_text, copied_text, cut_text, demo_text};
 ghost use Rattle.answer_lines.specs.Lines.{expanded_text};
@@ -8,7 +8,7 @@ ghost use Rattle.answer_lines.specs.Lines.{nand_text};
 ghost use Rattle.answer_lines.specs.Lines.{sparse_text, verified_text};
 
 use crate::Answer;
-use crate::line::Line;
+use line_parts::Line;
 use sparse_reader::SparseView;
 
 /// Puts the line of an answer at the front of the room, and gives its length: 0 for an answer whose work was done,

@@ -1,5 +1,5 @@
 -- What a partition occupies of the image, and what two of them share.
-use Rattle.std.specs.Prelude.{ℕ, zero, suc, ◌+◌, ◌-◌, Bool, false, not, ◌&&◌, ◌||◌, nat_le, nat_lt, List, Option, Some, None}
+use Rattle.std.specs.Prelude.{ℕ, zero, suc, ◌+◌, ◌-◌, Bool, false, not, ◌&&◌, ◌||◌, nat_le, nat_lt, Option, Some, None}
 use Rattle.std.specs.List.{list_any}
 use Rattle.conf_values.specs.declared.values.Hole.{Hole}
 use Rattle.placement_rules.specs.Places.{Stood, end_of}

@@ -8,7 +8,7 @@ use Rattle.conf_keys.specs.declared.conf.Kind.TheVariants as kind
 use Rattle.conf_keys.specs.declared.conf.PartitionSection.{PartitionSection}
 use Rattle.conf_values.specs.declared.values.Hole.{Hole}
 use Rattle.image_specs.specs.declared.specs.ImageSpec.{ImageSpec}
-use Rattle.placement_rules.specs.Frames.{has_table, is_hybrid, is_mbr, table_as}
+use Rattle.placement_rules.specs.Frames.{has_table, is_hybrid, is_mbr}
 use Rattle.placement_rules.specs.declared.terms.Terms.{Terms}
 
 -- ---- aligns

@@ -34,24 +34,61 @@ pub enum PartFault {
 #[derive(Debug, Drop)]
 pub enum PlaceFault {
     /// More partitions in a GUID partition table than its 128 entries.
-    TooManyEntries { count: u64 },
+    TooManyEntries {
+        count: u64,
+    },
     /// A place or a size that isn't a multiple of `align`; `part` is the image's name for one of the image.
-    Misaligned { part: Name, value: u64, align: u64 },
+    Misaligned {
+        part: Name,
+        value: u64,
+        align: u64,
+    },
     /// A hole that doesn't begin below its end, or begins below the end of the one before. `index` counts from 0.
-    BadHoles { part: Name, index: u64 },
+    BadHoles {
+        part: Name,
+        index: u64,
+    },
     /// A partition that grows to the end of the image and has less room than it needs.
-    BadAutoresize { part: Name, room: u64, least: u64 },
-    FileTooLarge { part: Name, has: u64, limit: u64 },
+    BadAutoresize {
+        part: Name,
+        room: u64,
+        least: u64,
+    },
+    FileTooLarge {
+        part: Name,
+        has: u64,
+        limit: u64,
+    },
     /// A partition of the table without a byte.
-    NoSize { part: Name },
+    NoSize {
+        part: Name,
+    },
     /// A number above its limit; `part` is the image's name for one of the image.
-    TooFar { part: Name, number: u64, limit: u64 },
+    TooFar {
+        part: Name,
+        number: u64,
+        limit: u64,
+    },
     /// `b` is an earlier partition, or a table's name in square brackets.
-    Overlap { a: Name, b: Name },
-    ImageTooSmall { has: u64, needs: u64 },
+    Overlap {
+        a: Name,
+        b: Name,
+    },
+    ImageTooSmall {
+        has: u64,
+        needs: u64,
+    },
     /// A place or size of a flash image that isn't a multiple of its erase block.
-    NotOnBlock { part: Name, value: u64, pebsize: u64 },
-    PastFlash { part: Name, end: u64, limit: u64 },
+    NotOnBlock {
+        part: Name,
+        value: u64,
+        pebsize: u64,
+    },
+    PastFlash {
+        part: Name,
+        end: u64,
+        limit: u64,
+    },
     NoMemory,
 }
 

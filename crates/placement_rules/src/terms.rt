@@ -1,3 +1,4 @@
+//! What the rules look at, and a place.
 use base_fields::TableKind;
 
 /// What the rules look at of an image as a whole. Places and sizes are in bytes.

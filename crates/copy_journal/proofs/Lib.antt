@@ -1,0 +1,4 @@
+-- lemmas
+mod GateLemmas
+pub mod KeptOpened
+mod PieceLemmas

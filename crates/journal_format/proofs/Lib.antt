@@ -1,0 +1,3 @@
+-- lemmas
+mod FieldBytes
+pub mod JournalLemmas

@@ -1,0 +1,4 @@
+-- lemmas
+pub mod Clashes
+pub mod Meeting
+pub mod OffsetSets

@@ -1,0 +1,6 @@
+//! Steps of a scenario on a cover, on the map that is made of it, and on the map's units.
+#![tactic(auto)]
+
+mod cover_steps;
+
+pub use cover_steps::{CoverStep, RangeDigest};
