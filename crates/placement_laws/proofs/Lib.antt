@@ -1,0 +1,7 @@
+-- lemmas
+pub mod Exactly
+pub mod Images
+pub mod Lists
+pub mod Multiples
+pub mod Numbers
+pub mod Spots

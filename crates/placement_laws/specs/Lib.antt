@@ -1,0 +1,4 @@
+-- definitions that contracts cite
+pub mod Laws
+pub mod Placed
+pub mod Terms
