@@ -1,0 +1,3 @@
+-- lemmas
+mod Pieces
+mod Checked
