@@ -1,0 +1,4 @@
+-- lemmas
+mod AllParts
+mod Holes
+mod Pieces
