@@ -28,7 +28,8 @@ pub fn put_parts<F: Files>(
     ensures missing { (part : ℕ) → IsErrOf result (ComposeFault.Missing part) → Rose (F.counts files.old).absences (F.counts files.new).absences }
     ensures ended { (part at : ℕ) → IsErrOf result (ComposeFault.SourceShort part at) → Rose (F.counts files.old).ends (F.counts files.new).ends }
     ensures known { (part : ℕ) → IsErrOf result (ComposeFault.Missing part) → part < length parts.now }
-    ensures needed { (part at : ℕ) → IsErrOf result (ComposeFault.SourceShort part at) → (part < length parts.now) × IsNeeded (part_of parts.now part) at }
+    ensures short { (part at : ℕ) → IsErrOf result (ComposeFault.SourceShort part at) → part < length parts.now }
+    ensures needed { (part at : ℕ) → IsErrOf result (ComposeFault.SourceShort part at) → IsNeeded (part_of parts.now part) at }
     ensures others { OthersStay image.now (F.file files.old) (F.file files.new) }
     ensures answers { F.told → PartsAnswer parts.now image.now (F.file files.old) (F.file files.new) result }
 {
@@ -55,7 +56,8 @@ fn put_part<F: Files>(
     ensures missing { (part : ℕ) → IsErrOf result (ComposeFault.Missing part) → Rose (F.counts files.old).absences (F.counts files.new).absences }
     ensures ended { (part at : ℕ) → IsErrOf result (ComposeFault.SourceShort part at) → Rose (F.counts files.old).ends (F.counts files.new).ends }
     ensures known { (k : ℕ) → IsErrOf result (ComposeFault.Missing k) → k ≡ number }
-    ensures needed { (k at : ℕ) → IsErrOf result (ComposeFault.SourceShort k at) → (k ≡ number) × IsNeeded part.now at }
+    ensures short { (k at : ℕ) → IsErrOf result (ComposeFault.SourceShort k at) → k ≡ number }
+    ensures needed { (k at : ℕ) → IsErrOf result (ComposeFault.SourceShort k at) → IsNeeded part.now at }
     ensures others { OthersStay image.now (F.file files.old) (F.file files.new) }
     ensures answers { F.told → PartAnswers number (source_in (F.file files.old) part.now.source) part.now image.now (F.file files.old) (F.file files.new) result }
 {
@@ -86,7 +88,8 @@ fn put_pieces<F: Files>(
     ensures missing { (part : ℕ) → IsErrOf result (ComposeFault.Missing part) → Rose (F.counts files.old).absences (F.counts files.new).absences }
     ensures ended { (part at : ℕ) → IsErrOf result (ComposeFault.SourceShort part at) → Rose (F.counts files.old).ends (F.counts files.new).ends }
     ensures known { (k : ℕ) → IsErrOf result (ComposeFault.Missing k) → k ≡ number }
-    ensures needed { (k at : ℕ) → IsErrOf result (ComposeFault.SourceShort k at) → (k ≡ number) × IsNeeded part.now at }
+    ensures short { (k at : ℕ) → IsErrOf result (ComposeFault.SourceShort k at) → k ≡ number }
+    ensures needed { (k at : ℕ) → IsErrOf result (ComposeFault.SourceShort k at) → IsNeeded part.now at }
     ensures others { OthersStay image.now (F.file files.old) (F.file files.new) }
     ensures answers { F.told → PartAnswers number (F.file files.old source.now) part.now image.now (F.file files.old) (F.file files.new) result }
 {
@@ -121,7 +124,9 @@ fn put_piece<F: Files>(
     ensures missing { (part : ℕ) → IsErrOf result (ComposeFault.Missing part) → Rose (F.counts files.old).absences (F.counts files.new).absences }
     ensures ended { (part at : ℕ) → IsErrOf result (ComposeFault.SourceShort part at) → Rose (F.counts files.old).ends (F.counts files.new).ends }
     ensures known { (k : ℕ) → IsErrOf result (ComposeFault.Missing k) → k ≡ number }
-    ensures needed { (k at : ℕ) → IsErrOf result (ComposeFault.SourceShort k at) → (k ≡ number) × (from ≤ at) × (at < to) }
+    ensures short { (k at : ℕ) → IsErrOf result (ComposeFault.SourceShort k at) → k ≡ number }
+    ensures needed { (k at : ℕ) → IsErrOf result (ComposeFault.SourceShort k at) → at < to }
+    ensures not_before { (k at : ℕ) → IsErrOf result (ComposeFault.SourceShort k at) → from ≤ at }
     ensures others { OthersStay image.now (F.file files.old) (F.file files.new) }
     ensures answers { F.told → PieceAnswers number (F.file files.old source.now) place from to image.now (F.file files.old) (F.file files.new) result }
 {
