@@ -1,4 +1,4 @@
 -- lemmas
-mod AllParts
+pub mod AllParts
 mod Holes
 mod Pieces

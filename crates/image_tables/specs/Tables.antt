@@ -1,5 +1,5 @@
 -- Parts of an image that are put into its file.
-use Rattle.std.specs.Prelude.{◌≡◌, ℕ, ◌+◌, ◌<◌, ◌≤◌, ◌⊎◌, List, [], ◌∷◌, length, slice_index, if◌then◌else◌}
+use Rattle.std.specs.Prelude.{◌≡◌, ℕ, ◌+◌, ◌<◌, ◌≤◌, ◌⊎◌, List, [], ◌∷◌, Some, length, slice_index, if◌then◌else◌}
 use Rattle.base_fields.specs.Parts.{HoldsPart, IsIn, Part}
 use Rattle.outside.specs.Files.{Tree, bytes_of}
 use Rattle.gpt_table.specs.Gpt.{back_byte, front_byte}
@@ -23,8 +23,10 @@ abbrev pub EndsWithin : ℕ → Part → Type 0
 EndsWithin size p = p.at + p.len ≤ size
 
 -- the bytes of the parts are put, and all else stays: whichever image is wanted that holds them, the file serves it
-abbrev pub PutsParts : List Part → List ℕ → Tree → Tree → Type 0
-PutsParts ps name old new = (want : ℕ → ℕ) → Each (HoldsPart want) ps → Serves want (IsInOne ps) name old new
+pub record PutsParts (ps : List Part) (name : List ℕ) (old new : Tree) : Type 0 where
+  pub there : new name ≡ Some (bytes_of new name)
+  pub size : length (bytes_of new name) ≡ length (bytes_of old name)
+  pub serves : (want : ℕ → ℕ) → Each (HoldsPart want) ps → Serves want (IsInOne ps) name old new
 
 -- these bytes from a place on, and zeros behind them
 abbrev pub head_part : ℕ → ℕ → List ℕ → Part

@@ -1,19 +1,17 @@
-ghost use Rattle.std.specs.Prelude.{◌≡◌, ℕ, ◌+◌, ◌*◌, ◌^◌, ◌<◌, ◌≤◌, ◌∷◌, [], IfOk, IsErrOf, OnOk, length};
+ghost use Rattle.std.specs.Prelude.{◌≡◌, ℕ, ◌+◌, ◌*◌, ◌^◌, ◌<◌, ◌≤◌, ◌∷◌, [], IfOk, IsErrOf, OnOk, length, slice_index};
 ghost use Rattle.outside.specs.Counts.{NoneFell, Rose};
 ghost use Rattle.outside.specs.Files.{IsThere, OthersStay, bytes_of};
 ghost use Rattle.gpt_table.specs.GptParts.{gpt_parts};
 ghost use Rattle.image_layout.specs.Covering.{FitsDisk};
 ghost use Rattle.image_tables.specs.Tables.{AreHeads, PutsParts, entries_parts, head_part, header_parts};
 
+use base_fields::put_bytes as set_bytes;
 use gpt_table::{GptHeads, GptSpec, gpt};
 use image_writes::put_bytes;
 use outside::{Files, WriteErr};
 
 /// The bytes of the 128 entries of a GUID partition table.
 const ENTRIES_LEN: usize = 16384;
-
-/// The bytes that are made of a header's sector.
-const HEAD_LEN: usize = 512;
 
 /// Puts a GUID partition table: the entries, and the sectors of the headers.
 pub fn put_guid<F: Files>(
@@ -79,11 +77,10 @@ fn put_headers<F: Files>(
     ensures puts { F.told → OnOk result (PutsParts (header_parts guid.now) name.now (F.file files.old) (F.file files.new)) }
 {
     let sector = u64::from(guid.sector);
-    let room = &mut buf[..guid.sector as usize];
-    put_head(files, name, sector, &heads.front, room)?;
+    put_head(files, name, sector, guid.sector, &heads.front, buf)?;
     if guid.backup {
         let at = (guid.sectors - 1) * sector;
-        put_head(files, name, at, &heads.back, room)?;
+        put_head(files, name, at, guid.sector, &heads.back, buf)?;
     }
     Ok(())
 }
@@ -93,19 +90,32 @@ fn put_head<F: Files>(
     files: &mut F,
     name: &str,
     at: u64,
+    sector: u32,
     head: &[u8],
-    room: &mut [u8],
+    buf: &mut [u8],
 ) -> Result<(), WriteErr>
     requires head { length head.now ≡ 512 }
-    requires room { 512 ≤ length room.old }
-    requires there { F.told → IsThere (F.file files.old) name.now (at + length room.old ≤ length (bytes_of (F.file files.old) name.now)) }
+    requires sector { 512 ≤ sector }
+    requires room { sector ≤ length buf.old }
+    requires there { F.told → IsThere (F.file files.old) name.now (at + sector ≤ length (bytes_of (F.file files.old) name.now)) }
     ensures none_fell { NoneFell (F.counts files.old) (F.counts files.new) }
     ensures failed { IsErrOf result WriteErr.Failed → Rose (F.counts files.old).faults (F.counts files.new).faults }
     ensures others { OthersStay name.now (F.file files.old) (F.file files.new) }
-    ensures puts { F.told → OnOk result (PutsParts (head_part at (length room.old) head.now ∷ []) name.now (F.file files.old) (F.file files.new)) }
+    ensures puts { F.told → OnOk result (PutsParts (head_part at sector head.now ∷ []) name.now (F.file files.old) (F.file files.new)) }
 {
-    room.fill(0);
-    room[..HEAD_LEN].copy_from_slice(head);
+    let room = &mut buf[..sector as usize];
+    set_head(room, head);
     put_bytes(files, name, at, room)?;
     Ok(())
+}
+
+/// Sets the room to these bytes and zeros behind them.
+fn set_head(room: &mut [u8], head: &[u8])
+    requires head { length head.now ≡ 512 }
+    requires room { 512 ≤ length room.old }
+    ensures len { length room.new ≡ length room.old }
+    ensures bytes { (o : ℕ) → o < length room.old → slice_index room.new o ≡ slice_index head.now o }
+{
+    room.fill(0);
+    set_bytes(room, 0, head);
 }

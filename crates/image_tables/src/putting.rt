@@ -24,11 +24,7 @@ const SECTOR: u64 = 512;
 
 /// Puts the tables of a layout into its file, which is there with the layout's size. After a fault nothing is said
 /// of that file, and the buffer may always hold any bytes.
-pub fn put_tables<F: Files>(
-    files: &mut F,
-    layout: &Layout,
-    buf: &mut [u8],
-) -> Result<(), WriteErr>
+pub fn put_tables<F: Files>(files: &mut F, layout: &Layout, buf: &mut [u8]) -> Result<(), WriteErr>
     requires room { 16384 ≤ length buf.old }
     requires layout { IsLayout layout.now }
     requires there { F.told → IsThere (F.file files.old) layout.now.file (length (bytes_of (F.file files.old) layout.now.file) ≡ layout.now.size) }
@@ -37,9 +33,10 @@ pub fn put_tables<F: Files>(
     ensures others { OthersStay layout.now.file (F.file files.old) (F.file files.new) }
     ensures puts { F.told → OnOk result (PutsParts (table_parts layout.now) layout.now.file (F.file files.old) (F.file files.new)) }
 {
-    put_record(files, layout.file.text(), &layout.mbr)?;
-    put_chain(files, layout.file.text(), layout.logical.as_slice())?;
-    put_any_guid(files, layout.file.text(), &layout.gpt, buf)?;
+    let name = layout.file.text();
+    put_record(files, name, &layout.mbr)?;
+    put_chain(files, name, layout.logical.as_slice())?;
+    put_any_guid(files, name, &layout.gpt, buf)?;
     Ok(())
 }
 
@@ -62,11 +59,7 @@ fn put_record<F: Files>(files: &mut F, name: &str, mbr: &Option<MbrSpec>) -> Res
 }
 
 /// Puts the boot record of each logical partition.
-fn put_chain<F: Files>(
-    files: &mut F,
-    name: &str,
-    logical: &[LogicalSpec],
-) -> Result<(), WriteErr>
+fn put_chain<F: Files>(files: &mut F, name: &str, logical: &[LogicalSpec]) -> Result<(), WriteErr>
     requires ascends { Ascends logical.now }
     requires there { F.told → IsThere (F.file files.old) name.now (Each (EndsWithin (length (bytes_of (F.file files.old) name.now))) (chain_parts logical.now)) }
     ensures none_fell { NoneFell (F.counts files.old) (F.counts files.new) }
@@ -75,7 +68,12 @@ fn put_chain<F: Files>(
     ensures puts { F.told → OnOk result (PutsParts (chain_parts logical.now) name.now (F.file files.old) (F.file files.new)) }
 {
     for (k, spec) in logical.iter().enumerate() {
-        put_bytes(files, name, SECTOR * u64::from(spec.head), &record_bytes(logical, k))?;
+        put_bytes(
+            files,
+            name,
+            SECTOR * u64::from(spec.head),
+            &record_bytes(logical, k),
+        )?;
     }
     Ok(())
 }
