@@ -1,5 +1,5 @@
 -- The bytes of all partitions' files, which are put one partition after another.
-use Rattle.std.specs.Prelude.{◌≡◌, ◌≢◌, ℕ, ◌+◌, ◌<◌, ◌≤◌, ◌⊎◌, List, [], length, Option, Some, None, Ok, Err, get_or, unwrap_or}
+use Rattle.std.specs.Prelude.{◌≡◌, ◌≢◌, ℕ, ◌+◌, ◌<◌, List, [], length, Option, Some, None, Err, get_or, unwrap_or}
 use Rattle.std.proofs.Common.{refl, ◌∙◌, sym, ap, subst, arith, inl, inr}
 use Rattle.std.proofs.lemmas.Bool.{cases_lt}
 use Rattle.std.proofs.lemmas.List.{get_or_default}
@@ -7,9 +7,8 @@ use Rattle.outside.specs.Files.{IsThere, OthersStay, Tree, bytes_of}
 use Rattle.outside.specs.declared.files.ComposeFault.{ComposeFault}
 use Rattle.outside.specs.declared.files.ComposeFault.TheVariants.{Missing, FileFault, SourceShort, NoMemory}
 use Rattle.image_layout.specs.declared.layout.Placed.{Placed}
-use Rattle.image_writes.specs.Images.{Serves}
 use Rattle.image_writes.proofs.Serving.{serves_none, serves_then}
-use Rattle.image_parts.specs.Files.{HasFile, HasNeeded, IsInFile, IsNeeded, IsOwn, PartAnswers, PartsAnswer, PutsPart, PutsParts, no_part, part_of, source_in}
+use Rattle.image_parts.specs.Files.{HasNeeded, IsInFile, IsNeeded, IsOwn, PartAnswers, PartsAnswer, PutsPart, PutsParts, no_part, part_of, source_in}
 use Rattle.image_parts.proofs.Holes.{wanted, wants}
 
 -- a partition's file is as before, where another one changed

@@ -1,19 +1,19 @@
 -- The bytes of one partition's file, which are put in pieces between its holes.
-use Rattle.std.specs.Prelude.{◌≡◌, ℕ, ◌+◌, ◌-◌, ◌^◌, ◌<◌, ◌≤◌, ◌⊎◌, min, List, [], length, Bool, true, false, Option, Some, None, Err, get_or, slice_index, unwrap_or}
-use Rattle.std.proofs.Common.{refl, ◌∙◌, sym, ap, subst, arith, inl, inr}
+use Rattle.std.specs.Prelude.{◌≡◌, ℕ, ◌+◌, ◌-◌, ◌^◌, ◌<◌, ◌≤◌, min, List, [], length, false, Option, Some, None, Err, get_or, slice_index, unwrap_or}
+use Rattle.std.proofs.Common.{◌∙◌, sym, ap, subst, arith, inl, inr}
 use Rattle.std.proofs.lemmas.Bool.{cases_lt}
 use Rattle.std.proofs.lemmas.List.{get_or_default}
 use Rattle.base_fields.specs.declared.spans.Span.{Span}
 use Rattle.outside.specs.Files.{IsThere, Tree, bytes_of}
 use Rattle.outside.specs.declared.files.ComposeFault.{ComposeFault}
 use Rattle.outside.specs.declared.files.ComposeFault.TheVariants.{Missing, FileFault, SourceShort, NoMemory}
-use Rattle.span_cover.specs.Cover.{covers, has}
+use Rattle.span_cover.specs.Cover.{covers}
 use Rattle.span_cover.proofs.Spans.{covers_at, covers_none, has_out, true≢false}
 use Rattle.image_layout.specs.IsLayout.{AreHoles}
 use Rattle.image_layout.specs.declared.layout.Placed.{Placed}
 use Rattle.image_writes.specs.Images.{IsInRun, Serves}
 use Rattle.image_writes.proofs.Serving.{serves_none, serves_then}
-use Rattle.image_parts.specs.Files.{HasFile, IsMissing, IsNeeded, IsOwn, IsShortAt, LacksPiece, PartAnswers, PieceAnswers, PutsPart, PutsPiece}
+use Rattle.image_parts.specs.Files.{HasFile, IsNeeded, IsOwn, LacksPiece, PartAnswers, PieceAnswers, PutsPart, PutsPiece}
 
 abbrev pub no_span : Span
 no_span = record { at = 0; len = 0 }

@@ -1,15 +1,13 @@
 -- One piece of a file that is put into an image.
-use Rattle.std.specs.Prelude.{◌≡◌, ℕ, ◌+◌, ◌-◌, ◌<◌, ◌≤◌, ◌⊎◌, max, List, [], length, take, drop, Option, Some, None, Result, Ok, Err, slice_index, unwrap_or, get_or}
+use Rattle.std.specs.Prelude.{◌≡◌, ℕ, ◌+◌, ◌-◌, ◌<◌, ◌≤◌, max, List, [], length, take, drop, Option, Some, None, Ok, Err, slice_index, unwrap_or}
 use Rattle.std.proofs.Common.{refl, ◌∙◌, sym, ap, subst, arith, inl, inr}
 use Rattle.std.proofs.lemmas.Bool.{cases_lt}
 use Rattle.std.proofs.lemmas.Bool.Decides.{nat_tests}
 use Rattle.std.proofs.lemmas.Grind.{common_steps}
 use Rattle.std.proofs.lemmas.List.{get_or-drop, get_or-take}
-use Rattle.base_fields.specs.Fields.{written}
 use Rattle.outside.specs.Files.{Tree, bytes_of}
 use Rattle.outside.specs.Reading.{span_of}
 use Rattle.outside.specs.Writing.{Transfers}
-use Rattle.outside.specs.declared.reading.FillFault.{FillFault}
 use Rattle.outside.specs.declared.reading.FillFault.TheVariants as fill
 use Rattle.outside.proofs.WriteLemmas.{ok_and}
 use Rattle.image_writes.specs.Images.{HasRun, IsInRun, Serves}

@@ -1,11 +1,9 @@
 -- What a partition needs of its file, and what it means to put that into an image.
-use Rattle.std.specs.Prelude.{◌≡◌, ℕ, ◌+◌, ◌-◌, ◌<◌, ◌≤◌, List, [], Bool, false, Option, Some, None, Result, Ok, Err, length, slice_index, slice_index_or, unwrap_or}
-use Rattle.outside.specs.Files.{Tree, bytes_of}
+use Rattle.std.specs.Prelude.{◌≡◌, ℕ, ◌+◌, ◌-◌, ◌<◌, ◌≤◌, List, [], false, Option, Some, None, Result, Ok, Err, length, slice_index, slice_index_or, unwrap_or}
+use Rattle.outside.specs.Files.{Tree}
 use Rattle.outside.specs.declared.files.ComposeFault.{ComposeFault}
 use Rattle.outside.specs.declared.files.ComposeFault.TheVariants.{Missing, FileFault, SourceShort, NoMemory}
 use Rattle.span_cover.specs.Cover.{covers}
-use Rattle.image_layout.specs.Layout.{source_bytes}
-use Rattle.image_layout.specs.declared.layout.Layout.{Layout}
 use Rattle.image_layout.specs.declared.layout.Placed.{Placed}
 use Rattle.image_writes.specs.Images.{IsInRun, Serves}
 

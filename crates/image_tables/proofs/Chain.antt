@@ -1,11 +1,11 @@
 -- The boot records of the logical partitions, which are put one after another.
-use Rattle.std.specs.Prelude.{◌≡◌, ℕ, ◌+◌, ◌*◌, ◌<◌, ◌≤◌, List, [], ◌∷◌, ◌++◌, Some, length, slice_get, slice_index, take, get_or}
-use Rattle.std.proofs.Common.{refl, ◌∙◌, sym, ap, subst, arith}
+use Rattle.std.specs.Prelude.{◌≡◌, ℕ, ◌+◌, ◌*◌, ◌<◌, ◌≤◌, List, [], ◌∷◌, ◌++◌, Some, length, slice_get, slice_index, take}
+use Rattle.std.proofs.Common.{◌∙◌, sym, ap, subst}
 use Rattle.std.proofs.lemmas.List.{take_all, take_more}
 use Rattle.base_fields.specs.Fields.{byte_of}
 use Rattle.base_fields.specs.Parts.{Part}
 use Rattle.outside.specs.Files.{IsThere, Tree, bytes_of}
-use Rattle.extended_chain.specs.Chain.{chain_parts, logical_of, no_logical, record_fields, record_part, start_of}
+use Rattle.extended_chain.specs.Chain.{chain_parts, logical_of, record_fields, record_part, start_of}
 use Rattle.extended_chain.specs.declared.chain.LogicalSpec.{LogicalSpec}
 use Rattle.extended_chain.proofs.Held.{length-records, record-at}
 use Rattle.image_writes.specs.Images.{PutsRun}

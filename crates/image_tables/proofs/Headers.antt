@@ -1,12 +1,11 @@
 -- A GUID partition table: its entries and the sectors of its headers.
-use Rattle.std.specs.Prelude.{◌≡◌, ℕ, ◌+◌, ◌-◌, ◌*◌, ◌<◌, ◌≤◌, ◌⊎◌, List, [], ◌∷◌, ◌++◌, Bool, true, false, drop, replicate, length, slice_index, get_or, if◌then◌else◌}
+use Rattle.std.specs.Prelude.{◌≡◌, ℕ, ◌+◌, ◌-◌, ◌*◌, ◌<◌, ◌≤◌, List, [], ◌∷◌, Bool, true, false, drop, length, slice_index, get_or, if◌then◌else◌}
 use Rattle.std.proofs.Common.{refl, ◌∙◌, sym, ap, subst, arith, inl, inr}
 use Rattle.std.proofs.lemmas.Bool.{cases_lt}
-use Rattle.std.proofs.lemmas.Grind.{common_steps}
-use Rattle.std.proofs.lemmas.List.{get_or_append_left, get_or-append_right, get_or-drop, get_or-replicate, get_or_past}
+use Rattle.std.proofs.lemmas.List.{get_or_append_left, get_or-append_right, get_or-drop, get_or_past}
 use Rattle.base_fields.specs.Fields.{written}
-use Rattle.base_fields.specs.Parts.{HoldsPart, Part}
-use Rattle.outside.specs.Files.{Tree, bytes_of}
+use Rattle.base_fields.specs.Parts.{Part}
+use Rattle.outside.specs.Files.{Tree}
 use Rattle.gpt_table.specs.Gpt.{GptFits, back_byte, entries_byte, front_byte}
 use Rattle.gpt_table.specs.GptParts.{back_entries_part, back_part, entries_part, front_part, gpt_parts}
 use Rattle.gpt_table.specs.declared.table.GptHeads.{GptHeads}

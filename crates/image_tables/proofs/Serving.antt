@@ -1,8 +1,8 @@
 -- Parts of an image that are put one after another.
-use Rattle.std.specs.Prelude.{◌≡◌, ℕ, zero, suc, ◌+◌, ◌-◌, ◌<◌, ◌≤◌, ◌⊎◌, List, [], ◌∷◌, ◌++◌, All, Option, Some, None, IfSome, length, slice_index, get_or}
-use Rattle.std.proofs.Common.{refl, ◌∙◌, sym, ap, subst, arith, inl, inr}
+use Rattle.std.specs.Prelude.{◌≡◌, ℕ, zero, suc, ◌+◌, ◌-◌, ◌<◌, ◌⊎◌, List, [], ◌∷◌, ◌++◌, All, Option, Some, None, IfSome, length, slice_index, get_or}
+use Rattle.std.proofs.Common.{refl, ◌∙◌, sym, ap, arith, inl, inr}
 use Rattle.std.proofs.lemmas.List.Elements.{All-tail}
-use Rattle.base_fields.specs.Parts.{HoldsPart, IsIn, Part, fields_part}
+use Rattle.base_fields.specs.Parts.{HoldsPart, Part, fields_part}
 use Rattle.base_fields.specs.Fields.{byte_of}
 use Rattle.outside.specs.Files.{IsThere, Tree, bytes_of}
 use Rattle.mbr_table.specs.Mbr.{HasLast, mbr_fields, mbr_parts}

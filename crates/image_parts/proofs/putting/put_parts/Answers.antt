@@ -1,4 +1,4 @@
-use Rattle.std.proofs.Common.{◌≡◌, ◌≢◌, ◌+◌, ◌<◌, ◌≤◌, ℕ, Some, Err, length, sym, subst, arith, rules}
+use Rattle.std.proofs.Common.{◌≡◌, ◌≢◌, ◌+◌, ◌≤◌, Some, Err, length, sym, subst, rules}
 use Rattle.outside.specs.Files.{bytes_of}
 use Rattle.image_layout.specs.declared.layout.Placed.{Placed}
 use Rattle.image_parts.proofs.AllParts.{needed_at, parts_fail_at, parts_more_at, still_sized}

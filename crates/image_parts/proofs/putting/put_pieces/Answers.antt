@@ -1,4 +1,4 @@
-use Rattle.std.proofs.Common.{◌≡◌, ◌+◌, ◌<◌, ◌≤◌, ℕ, Err, length, arith, rules}
+use Rattle.std.proofs.Common.{◌≡◌, ◌+◌, ◌<◌, ◌≤◌, Err, length, arith, rules}
 use Rattle.image_layout.specs.declared.layout.Placed.{Placed}
 use Rattle.image_parts.proofs.Holes.{AllNeeded, among_more, hole_of, needed_before_hole, needed_behind_holes, none_in_hole, part_fails_too, puts_last, puts_more, still_inside}
 use Rattle.image_parts.proofs.putting.put_pieces.Goals as goal

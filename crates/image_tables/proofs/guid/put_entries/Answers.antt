@@ -1,4 +1,4 @@
-use Rattle.std.proofs.Common.{◌≡◌, length, arith, rules}
+use Rattle.std.proofs.Common.{◌≡◌, length, rules}
 use Rattle.image_tables.proofs.Headers.{back_entries_end, puts_entries, puts_front}
 use Rattle.image_tables.proofs.Serving.{run_there}
 use Rattle.image_tables.proofs.guid.put_entries.Goals as goal

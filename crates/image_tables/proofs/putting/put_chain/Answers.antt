@@ -1,4 +1,4 @@
-use Rattle.std.proofs.Common.{◌≡◌, length, arith, rules}
+use Rattle.std.proofs.Common.{◌≡◌, length, rules}
 use Rattle.image_tables.proofs.Chain.{record_inside, records_all, records_more}
 use Rattle.image_tables.proofs.putting.put_chain.Goals as goal
 

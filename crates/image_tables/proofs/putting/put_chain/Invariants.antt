@@ -1,4 +1,4 @@
-use Rattle.std.proofs.Common.{◌≡◌, take}
+use Rattle.std.proofs.Common.{take}
 use Rattle.outside.specs.Counts.{NoneFell}
 use Rattle.outside.specs.Files.{OthersStay}
 use Rattle.extended_chain.specs.Chain.{chain_parts}

@@ -1,4 +1,4 @@
-use Rattle.std.proofs.Common.{◌≡◌, ◌∙◌, length, rules}
+use Rattle.std.proofs.Common.{◌∙◌}
 use Rattle.image_tables.proofs.Serving.{can_be_written, chain_within, puts_tables, record_within}
 use Rattle.image_tables.proofs.putting.put_tables.Goals as goal
 
