@@ -1,6 +1,6 @@
 -- An image that is filled, then given the bytes of the partitions' files, and then the tables.
-use Rattle.std.specs.Prelude.{◌≡◌, ℕ, ◌<◌, ◌≤◌, ◌⊎◌, List, [], All, Option, Some, None, false, Result, Ok, Err, OnOk, length, slice_index, unwrap_or}
-use Rattle.std.proofs.Common.{refl, ◌∙◌, sym, ap, arith, inl, inr}
+use Rattle.std.specs.Prelude.{◌≡◌, ℕ, ◌<◌, ◌⊎◌, List, [], All, Option, Some, None, false, Result, Ok, Err, OnOk, length, slice_index, unwrap_or}
+use Rattle.std.proofs.Common.{refl, ◌∙◌, sym, arith, inl, inr}
 use Rattle.outside.specs.Files.{IsThere, OthersStay, Tree, bytes_of}
 use Rattle.outside.specs.declared.files.ComposeFault.{ComposeFault}
 use Rattle.outside.specs.declared.files.ComposeFault.TheVariants.{Missing, FileFault, SourceShort, NoMemory}

@@ -1,14 +1,13 @@
 -- The partitions' files, which stay as they are where the layout's own file changes.
-use Rattle.std.specs.Prelude.{◌≡◌, ℕ, ◌+◌, ◌^◌, ◌<◌, ◌≤◌, List, [], All, Option, Some, None, Err, length, unwrap_or}
-use Rattle.std.proofs.Common.{refl, ◌∙◌, sym, ap, subst, arith}
+use Rattle.std.specs.Prelude.{◌≡◌, ℕ, ◌+◌, ◌^◌, ◌<◌, ◌≤◌, List, [], All, Option, Err, length, unwrap_or}
+use Rattle.std.proofs.Common.{◌∙◌, sym, ap, subst, arith}
 use Rattle.outside.specs.Files.{OthersStay, Tree, bytes_of}
 use Rattle.outside.specs.declared.files.ComposeFault.{ComposeFault}
 use Rattle.outside.specs.declared.files.ComposeFault.TheVariants.{Missing, FileFault, SourceShort, NoMemory}
 use Rattle.image_layout.specs.IsLayout.{IsLayout, IsPart}
 use Rattle.image_layout.specs.Layout.{source_bytes}
 use Rattle.image_layout.specs.declared.layout.Layout.{Layout}
-use Rattle.image_layout.specs.declared.layout.Placed.{Placed}
-use Rattle.image_parts.specs.Files.{HasNeeded, HaveNeeded, IsFirstMissing, IsFirstShort, IsMissing, IsShortAt, PartsAnswer, no_part, part_of, source_in}
+use Rattle.image_parts.specs.Files.{HasNeeded, HaveNeeded, IsMissing, IsShortAt, PartsAnswer, no_part, part_of, source_in}
 use Rattle.image_parts.proofs.AllParts.{same_source}
 use Rattle.image_composer.specs.Images.{ComposeAnswers, IsOwnFile, StageAnswers}
 use Rattle.image_composer.proofs.Wanted.{source_is}

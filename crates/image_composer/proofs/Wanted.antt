@@ -1,7 +1,7 @@
 -- The byte of a layout at each offset, by the bytes of the files that its partitions name.
-use Rattle.std.specs.Prelude.{◌≡◌, ℕ, zero, suc, ◌+◌, ◌-◌, ◌<◌, ◌≤◌, ◌⊎◌, List, [], ◌∷◌, All, Contains, Option, Some, None, Bool, true, false, ◌&&◌, not, nat_le, nat_lt, IsTrue, if◌then◌else◌, length, slice_index, slice_index_or, unwrap_or, get_or}
+use Rattle.std.specs.Prelude.{◌≡◌, ℕ, suc, ◌+◌, ◌-◌, ◌<◌, ◌≤◌, ◌⊎◌, List, [], ◌∷◌, All, Option, Some, None, Bool, true, false, ◌&&◌, not, nat_le, nat_lt, if◌then◌else◌, length, slice_index, unwrap_or, get_or}
 use Rattle.std.specs.Option.{option_or}
-use Rattle.std.proofs.Common.{refl, ◌∙◌, sym, ap, subst, arith, inl, inr}
+use Rattle.std.proofs.Common.{refl, ◌∙◌, ap, arith, inl, inr}
 use Rattle.std.proofs.lemmas.Bool.{le-leb, leb-true, lt-ltb, ltb-true}
 use Rattle.std.proofs.lemmas.List.Elements.{All-cons, All-nil, Contains-get_or}
 use Rattle.base_fields.specs.Parts.{HoldsPart, Part, covers, part_byte}

@@ -1,5 +1,5 @@
 -- What it means to compose an image.
-use Rattle.std.specs.Prelude.{◌≡◌, ◌≢◌, ℕ, ◌<◌, List, All, Some, Result, Ok, Err, length, slice_index}
+use Rattle.std.specs.Prelude.{◌≡◌, ◌≢◌, ℕ, ◌<◌, All, Some, Result, Ok, Err, length, slice_index}
 use Rattle.outside.specs.Files.{Tree, bytes_of}
 use Rattle.outside.specs.declared.files.ComposeFault.{ComposeFault}
 use Rattle.outside.specs.declared.files.ComposeFault.TheVariants.{Missing, FileFault, SourceShort, NoMemory}

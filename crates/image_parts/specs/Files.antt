@@ -120,7 +120,8 @@ pub record IsFirstShort (file : Tree) (parts : List Placed) (k at : ℕ) : Type 
   pub before : HaveNeeded file parts k
   pub lacks : IsShortAt (source_in file (part_of parts k).source) (part_of parts k) at
 
--- all are put; or the answer names the first partition that lacks its file or a byte of it; or a call failed or memory was refused
+-- all are put; or the answer names the first partition that lacks its file or a byte of it; or a call failed or memory was
+-- refused
 abbrev pub PartsAnswer : List Placed → List ℕ → Tree → Tree → Result Unit ComposeFault → Type 0
 PartsAnswer parts name old new (Ok done) = PutsParts parts (length parts) name old new
 PartsAnswer parts name old new (Err (Missing part)) = IsFirstMissing old parts part
