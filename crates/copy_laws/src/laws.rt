@@ -1,0 +1,44 @@
+ghost use Rattle.copy_laws.specs.Marks.{CheckingKeepsStanding, ClearingKeepsStanding, DoneIsCopied, FirstStart};
+ghost use Rattle.copy_laws.specs.Marks.{ForeignStands, NewStands, RecordingKeepsStanding, UnheldStands};
+ghost use Rattle.copy_laws.specs.Writes.{OneUnitTorn, WritesKeepBytes, WritesKeepDigests, WritesKeepSince, WritesKeepStanding, WritesKeepTheRest};
+
+/// Nothing is done: the contract is the law of a write to the target.
+///
+/// Where the units that are written aren't recorded, and their ranges aren't checked, a pair that stands
+/// stands with any of their bytes, and nothing off the map changes. Each part is kept on its own.
+pub fn writes_keep_since()
+    ensures one { OneUnitTorn }
+    ensures digests { WritesKeepDigests }
+    ensures bytes { WritesKeepBytes }
+    ensures rest { WritesKeepTheRest }
+    ensures standing { WritesKeepStanding }
+    ensures since { WritesKeepSince }
+{}
+
+/// Nothing is done: the contract is the law of the writes of marks.
+///
+/// A torn mark of a unit is true where the unit reads as the source's bytes, and that of a range where its
+/// units are recorded and its digest holds. A clearing that is torn back is true where all the units were
+/// recorded.
+pub fn marks_keep_standing()
+    ensures recording { RecordingKeepsStanding }
+    ensures checking { CheckingKeepsStanding }
+    ensures clearing { ClearingKeepsStanding }
+{}
+
+/// Nothing is done: the contract is the law of the journals of which nothing is said.
+///
+/// Such a journal stands with any target, so a first start has all that is kept from then on.
+pub fn unheld_journals_stand()
+    ensures unheld { UnheldStands }
+    ensures foreign { ForeignStands }
+    ensures new { NewStands }
+    ensures first { FirstStart }
+{}
+
+/// Nothing is done: the contract is the law of the end.
+///
+/// Where every range is checked, each digest holds and the mapped bytes are the source's.
+pub fn checked_ranges_are_copied()
+    ensures { DoneIsCopied }
+{}

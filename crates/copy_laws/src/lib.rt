@@ -1,0 +1,8 @@
+//! Laws of a copy's events: what each write to the target or the journal keeps, however it is torn.
+#![tactic(auto)]
+
+mod laws;
+
+pub use laws::{
+    checked_ranges_are_copied, marks_keep_standing, unheld_journals_stand, writes_keep_since,
+};
