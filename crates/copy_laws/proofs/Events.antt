@@ -23,7 +23,7 @@ use Rattle.copy_laws.proofs.Marks.{MarkChange, bytes_kept, contains_or_not, dige
 use Rattle.copy_laws.proofs.UnitBytes.{in_range_below, range_below, range_found, rows_length, some_unit, unit_below}
 
 -- ---- the events as changes of marks
-recording_changes : (id : JobId) (ks j new : List ℕ) → MarksTorn ks j new → ((k : ℕ) → Contains ks k → k < id.units) → MarkChange id (λ k. Contains ks k) (λ r. ⊥) j new
+pub recording_changes : (id : JobId) (ks j new : List ℕ) → MarksTorn ks j new → ((k : ℕ) → Contains ks k → k < id.units) → MarkChange id (λ k. Contains ks k) (λ r. ⊥) j new
 recording_changes id ks j new torn below = record {
   size = torn.size;
   head = λ k h. torn.same k (λ c. let it = mark_of ks k c in absurd (omega (arith, it.2)));
@@ -31,7 +31,7 @@ recording_changes id ks j new torn below = record {
   range = λ r h out. torn.same (range_mark id r) (λ c. let it = mark_of ks (range_mark id r) c in let low : it.0 < id.units = below it.0 it.1 in absurd (omega (arith, it.2)));
 }
 
-checking_changes : (id : JobId) (r : ℕ) (j new : List ℕ) → RangeMarkTorn id r j new → MarkChange id (λ k. ⊥) (λ x. x ≡ r) j new
+pub checking_changes : (id : JobId) (r : ℕ) (j new : List ℕ) → RangeMarkTorn id r j new → MarkChange id (λ k. ⊥) (λ x. x ≡ r) j new
 checking_changes id r j new torn = record {
   size = torn.size;
   head = λ k h. torn.below k (omega arith);
@@ -59,7 +59,7 @@ row_below id m r job there =
           omega (arith, job.units)
     ]
 
-clearing_changes : (id : JobId) (m : BlockMap) (r : ℕ) (j new : List ℕ) → IsJobOf id m → RowTorn id m r j new → r < id.ranges → MarkChange id (λ k. IsInRange id m k r) (λ x. ⊥) j new
+pub clearing_changes : (id : JobId) (m : BlockMap) (r : ℕ) (j new : List ℕ) → IsJobOf id m → RowTorn id m r j new → r < id.ranges → MarkChange id (λ k. IsInRange id m k r) (λ x. ⊥) j new
 clearing_changes id m r j new job torn below =
     let rows : List (List Span) = units_by_range m id.unit in
     let there : r < length rows = omega (arith, job.ranges, rows_length id m) in
@@ -77,7 +77,7 @@ clearing_changes id m r j new job torn below =
     }
 
 -- whether a unit is in a range
-in_range_or_not : (id : JobId) (m : BlockMap) (r k : ℕ) → r < length (units_by_range m id.unit) → IsInRange id m k r ⊎ ¬ IsInRange id m k r
+pub in_range_or_not : (id : JobId) (m : BlockMap) (r k : ℕ) → r < length (units_by_range m id.unit) → IsInRange id m k r ⊎ ¬ IsInRange id m k r
 in_range_or_not id m r k there =
     let rows : List (List Span) = units_by_range m id.unit in
     elim (cases_lt k (first_of rows r)) [

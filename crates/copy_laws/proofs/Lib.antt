@@ -1,6 +1,8 @@
 -- lemmas
 pub mod Bytes
+pub mod Endings
 pub mod Events
 pub mod Marks
+pub mod Nearness
 pub mod UnitBytes
 pub mod Writes

@@ -1,5 +1,7 @@
+ghost use Rattle.copy_laws.specs.Endings.{MixedIsOne, OneOutcome};
 ghost use Rattle.copy_laws.specs.Marks.{CheckingKeepsStanding, ClearingKeepsStanding, DoneIsCopied, FirstStart};
 ghost use Rattle.copy_laws.specs.Marks.{ForeignStands, NewStands, RecordingKeepsStanding, UnheldStands};
+ghost use Rattle.copy_laws.specs.Narrowing.{CheckIsNear, ClearIsNear, UnitsAreNear};
 ghost use Rattle.copy_laws.specs.Writes.{OneUnitTorn, WritesKeepBytes, WritesKeepDigests, WritesKeepSince, WritesKeepStanding, WritesKeepTheRest};
 
 /// Nothing is done: the contract is the law of a write to the target.
@@ -41,4 +43,23 @@ pub fn unheld_journals_stand()
 /// Where every range is checked, each digest holds and the mapped bytes are the source's.
 pub fn checked_ranges_are_copied()
     ensures { DoneIsCopied }
+{}
+
+/// Nothing is done: the contract is the law of how near a copy stays to the start of its run.
+///
+/// A pair that differs from one of a copier on its way only by what it writes there is narrow, and keeps
+/// what was recorded and checked at the start, but for the units of a range that differs.
+pub fn steps_are_narrow()
+    ensures units { UnitsAreNear }
+    ensures check { CheckIsNear }
+    ensures clear { ClearIsNear }
+{}
+
+/// Nothing is done: the contract is the law that a run has one outcome.
+///
+/// What a range's bytes become is determined by the start and the source, so a run that meets no fault of a
+/// device ends in one way at most.
+pub fn runs_end_one_way()
+    ensures mixed { MixedIsOne }
+    ensures outcome { OneOutcome }
 {}

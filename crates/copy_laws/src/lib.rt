@@ -4,5 +4,6 @@
 mod laws;
 
 pub use laws::{
-    checked_ranges_are_copied, marks_keep_standing, unheld_journals_stand, writes_keep_since,
+    checked_ranges_are_copied, marks_keep_standing, runs_end_one_way, steps_are_narrow,
+    unheld_journals_stand, writes_keep_since,
 };
