@@ -1,18 +1,17 @@
 -- Mixed is one, and so is the outcome of a run.
-use Rattle.std.proofs.Common.{◌≡◌, ℕ, ◌<◌, ◌≤◌, List, length, get_or, inl, inr, refl, sym, ap, subst, ◌∙◌, arith}
+use Rattle.std.proofs.Common.{◌≡◌, ℕ, ◌<◌, List, length, get_or, inl, inr, sym, ap, subst, ◌∙◌, arith}
 use Rattle.std.proofs.lemmas.Bool.{cases_eq, cases_lt}
 use Rattle.std.proofs.lemmas.Grind.{same_number_lists}
 use Rattle.std.specs.Option.{unwrap_or}
 use Rattle.std.specs.Prelude.{Option, Some, IfSome}
-use Rattle.base_fields.specs.declared.spans.Span.{Span}
 use Rattle.block_map.specs.Maps.{digest_in}
 use Rattle.block_map.specs.declared.maps.BlockMap.{BlockMap}
 use Rattle.block_map.specs.declared.maps.Range.{Range}
 use Rattle.journal_format.specs.declared.jobs.JobId.{JobId}
-use Rattle.copy_states.specs.Jobs.{IsJobOf, IsRangeAt, IsRecorded, SameIn}
-use Rattle.copy_states.specs.Outcomes.{EndsDiffering, EndsDone, EndsShort, IsFirst, Needs, Passes}
+use Rattle.copy_states.specs.Jobs.{IsJobOf, IsRangeAt, IsRecorded}
+use Rattle.copy_states.specs.Outcomes.{EndsDiffering, EndsShort, IsFirst, Needs, Passes}
 use Rattle.copy_states.specs.Starts.{HasMixed, MixedGives, Pair}
-use Rattle.copy_laws.specs.Endings.{HasOneOutcome, MixedIsOne, OneOutcome}
+use Rattle.copy_laws.specs.Endings.{MixedIsOne, OneOutcome}
 use Rattle.copy_laws.proofs.UnitBytes.{same_digest}
 
 -- lists that can't differ are the same

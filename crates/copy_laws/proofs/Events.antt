@@ -1,22 +1,21 @@
 -- What writes of marks keep, what stands of itself, and what stands at the end.
-use Rattle.std.proofs.Common.{◌≡◌, ◌≢◌, ◌⊎◌, ℕ, ◌+◌, ◌-◌, ◌<◌, ◌≤◌, List, [], length, get_or, drop, take, inl, inr, refl, true, sym, ap, subst, ◌∙◌, arith}
+use Rattle.std.proofs.Common.{◌≡◌, ◌⊎◌, ℕ, ◌+◌, ◌-◌, ◌<◌, ◌≤◌, List, [], length, get_or, inl, inr, refl, true, sym, ap, subst, arith}
 use Rattle.std.proofs.lemmas.Bool.{cases_eq, cases_lt}
 use Rattle.std.proofs.lemmas.List.{take_all}
 use Rattle.std.proofs.lemmas.Option.{slice_get_within}
-use Rattle.std.specs.Prelude.{Option, None, Some, IfSome, IsTrue, Contains, map, slice_get, slice_index}
+use Rattle.std.specs.Prelude.{Option, None, Some, IfSome, IsTrue, Contains, slice_get, slice_index}
 use Rattle.base_fields.specs.declared.spans.Span.{Span}
 use Rattle.span_cover.specs.Cover.{has}
 use Rattle.span_cover.proofs.Spans.{in_has}
 use Rattle.block_map.specs.Maps.{is_mapped}
 use Rattle.block_map.specs.Units.{first_of, joined, units_by_range, units_of}
 use Rattle.block_map.specs.declared.maps.BlockMap.{BlockMap}
-use Rattle.block_map.specs.declared.maps.Range.{Range}
 use Rattle.block_map.proofs.Index.{first_next, first_rises, one_range}
 use Rattle.block_map.proofs.Numbering.{mapped_found}
-use Rattle.journal_format.specs.Journals.{HasNoMark, IsHeld, IsOpenedFor, range_mark, unit_mark}
+use Rattle.journal_format.specs.Journals.{IsOpenedFor, range_mark, unit_mark}
 use Rattle.journal_format.specs.declared.jobs.JobId.{JobId}
 use Rattle.copy_states.specs.Jobs.{AreRecorded, HasFrom, IsChecked, IsInRange, IsJobOf, IsRecorded, IsUnitAt}
-use Rattle.copy_states.specs.Standing.{Copied, IsByteOf, RecordedAreCopied, Since, Standing}
+use Rattle.copy_states.specs.Standing.{IsByteOf, RecordedAreCopied}
 use Rattle.copy_laws.specs.Marks.{CheckingKeepsStanding, ClearingKeepsStanding, DoneIsCopied, FirstStart, ForeignStands, MarksTorn, NewStands, RangeMarkTorn, RecordingKeepsStanding, RowTorn, UnheldStands}
 use Rattle.copy_laws.proofs.Bytes.{byte_of_part}
 use Rattle.copy_laws.proofs.Marks.{MarkChange, bytes_kept, contains_or_not, digests_kept, mark_of, marks_kept}
@@ -88,21 +87,21 @@ in_range_or_not id m r k there =
       ]
     ]
 
-none : (r : ℕ) → ⊥ ⊎ ¬ ⊥
-none r = inr (λ never. never)
+pub none_of : (r : ℕ) → ⊥ ⊎ ¬ ⊥
+none_of r = inr (λ never. never)
 
-no_units : (source : Option (List ℕ)) (P : List ℕ → ℕ → Span → Type 0) → IfSome source (λ s. (k : ℕ) (u : Span) → ⊥ → P s k u)
-no_units None P = tt
-no_units (Some s) P = λ k u never. absurd never
+pub no_units_of : (source : Option (List ℕ)) (P : List ℕ → ℕ → Span → Type 0) → IfSome source (λ s. (k : ℕ) (u : Span) → ⊥ → P s k u)
+no_units_of None P = tt
+no_units_of (Some s) P = λ k u never. absurd never
 
 -- ---- what they keep
 pub recording_keeps_standing : RecordingKeepsStanding
 recording_keeps_standing id m source ks t j new job torn below unchecked copied standing =
     let change : MarkChange id (λ k. Contains ks k) (λ r. ⊥) j new = recording_changes id ks j new torn below in
     record {
-      digests = digests_kept id m (λ k. Contains ks k) (λ r. ⊥) t j new job change none (λ r range never is. absurd never) standing.digests;
+      digests = digests_kept id m (λ k. Contains ks k) (λ r. ⊥) t j new job change none_of (λ r range never is. absurd never) standing.digests;
       bytes = bytes_kept id m source (λ k. Contains ks k) (λ r. ⊥) t j new job change (contains_or_not ks) copied standing.bytes;
-      marks = marks_kept id m (λ k. Contains ks k) (λ r. ⊥) j new job change none (λ r never. absurd never) unchecked (λ k r among mine never. never) standing.marks;
+      marks = marks_kept id m (λ k. Contains ks k) (λ r. ⊥) j new job change none_of (λ r never. absurd never) unchecked (λ k r among mine never. never) standing.marks;
     }
 
 pub checking_keeps_standing : CheckingKeepsStanding
@@ -110,7 +109,7 @@ checking_keeps_standing id m source r t j new job torn below right recorded stan
     let change : MarkChange id (λ k. ⊥) (λ x. x ≡ r) j new = checking_changes id r j new torn in
     record {
       digests = digests_kept id m (λ k. ⊥) (λ x. x ≡ r) t j new job change (λ x. cases_eq x r) (λ x range one is. right range (subst (λ (n : ℕ). slice_get m.ranges n ≡ Some range) one is)) standing.digests;
-      bytes = bytes_kept id m source (λ k. ⊥) (λ x. x ≡ r) t j new job change none (no_units source (λ s k u. IsUnitAt id m k u → HasFrom u s t)) standing.bytes;
+      bytes = bytes_kept id m source (λ k. ⊥) (λ x. x ≡ r) t j new job change none_of (no_units_of source (λ s k u. IsUnitAt id m k u → HasFrom u s t)) standing.bytes;
       marks = marks_kept id m (λ k. ⊥) (λ x. x ≡ r) j new job change (λ x. cases_eq x r) (λ x one. subst (λ (n : ℕ). AreRecorded id m n j) (sym one) recorded) (λ k never. absurd never) (λ k x never mine. absurd never) standing.marks;
     }
 
@@ -123,9 +122,9 @@ clearing_keeps_standing id m source r t j new job torn below recorded unchecked 
     let change : MarkChange id (λ k. IsInRange id m k r) (λ x. ⊥) j new = clearing_changes id m r j new job torn below in
     let there : r < length (units_by_range m id.unit) = omega (arith, job.ranges, rows_length id m) in
     record {
-      digests = digests_kept id m (λ k. IsInRange id m k r) (λ x. ⊥) t j new job change none (λ x range never is. absurd never) standing.digests;
+      digests = digests_kept id m (λ k. IsInRange id m k r) (λ x. ⊥) t j new job change none_of (λ x range never is. absurd never) standing.digests;
       bytes = bytes_kept id m source (λ k. IsInRange id m k r) (λ x. ⊥) t j new job change (λ k. in_range_or_not id m r k there) (all_copied id m source r t j recorded standing.bytes) standing.bytes;
-      marks = marks_kept id m (λ k. IsInRange id m k r) (λ x. ⊥) j new job change none (λ x never. absurd never)
+      marks = marks_kept id m (λ k. IsInRange id m k r) (λ x. ⊥) j new job change none_of (λ x never. absurd never)
           (λ k among x mine checked. unchecked (subst (λ (n : ℕ). IsChecked id n j) (one_range (units_by_range m id.unit) k x r mine among) checked))
           (λ k x among mine never. never) standing.marks;
     }

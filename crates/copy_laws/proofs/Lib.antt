@@ -4,5 +4,7 @@ pub mod Endings
 pub mod Events
 pub mod Marks
 pub mod Nearness
+pub mod Opening
+pub mod Steps
 pub mod UnitBytes
 pub mod Writes

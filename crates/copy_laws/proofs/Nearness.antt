@@ -1,23 +1,21 @@
 -- From Along to Narrow and Keeps.
-use Rattle.std.proofs.Common.{◌≡◌, ◌≢◌, ◌⊎◌, ℕ, ◌+◌, ◌<◌, ◌≤◌, List, [], ◌∷◌, ◌++◌, length, get_or, zero, suc, inl, inr, refl, sym, ap, subst, ⊎_elim, ◌∙◌, arith, length-append}
+use Rattle.std.proofs.Common.{◌≡◌, ◌⊎◌, ℕ, ◌+◌, ◌<◌, ◌≤◌, List, [], ◌∷◌, length, get_or, zero, suc, inl, inr, refl, sym, subst, ⊎_elim, ◌∙◌, arith}
 use Rattle.std.proofs.lemmas.Bool.{cases_eq, cases_lt}
 use Rattle.std.proofs.lemmas.List.Elements.{All-contains}
-use Rattle.std.specs.Prelude.{All, Contains, Option}
+use Rattle.std.specs.Prelude.{Contains, Option}
 use Rattle.base_fields.specs.declared.spans.Span.{Span}
 use Rattle.block_map.specs.Units.{first_of, units_by_range}
 use Rattle.block_map.specs.declared.maps.BlockMap.{BlockMap}
 use Rattle.block_map.proofs.Index.{first_rises, one_range}
 use Rattle.journal_format.specs.declared.jobs.JobId.{JobId}
-use Rattle.copy_states.specs.Along.{Along, IsPositionOn, Position}
-use Rattle.copy_states.specs.Jobs.{IsChecked, IsInRange, IsJobOf, IsRecorded, IsUnitAt}
-use Rattle.copy_states.specs.Narrow.{IsInRangeThatDiffers, IsInStep, Keeps, Narrow, ReadsAsAtStart}
-use Rattle.copy_states.specs.Starts.{IsIdle, MixedGives, Pair}
-use Rattle.copy_laws.specs.Marks.{MarksTorn, RangeMarkTorn, RowTorn}
-use Rattle.copy_laws.specs.Narrowing.{AreOpen, CheckIsNear, ClearIsNear, IsNear, UnitsAreNear}
-use Rattle.copy_laws.specs.Writes.{UnitsTorn}
+use Rattle.copy_states.specs.Along.{Along, Position}
+use Rattle.copy_states.specs.Jobs.{IsChecked, IsInRange, IsRecorded}
+use Rattle.copy_states.specs.Narrow.{IsInRangeThatDiffers, IsInStep, Narrow, ReadsAsAtStart}
+use Rattle.copy_states.specs.Starts.{IsIdle, Pair}
+use Rattle.copy_laws.specs.Narrowing.{AreOpen, CheckIsNear, ClearIsNear, UnitsAreNear}
 use Rattle.copy_laws.proofs.Events.{checking_changes, clearing_changes, in_range_or_not, recording_changes}
 use Rattle.copy_laws.proofs.Marks.{MarkChange, checked_after, recorded_after}
-use Rattle.copy_laws.proofs.UnitBytes.{in_range_below, other_unit, rows_length}
+use Rattle.copy_laws.proofs.UnitBytes.{other_unit, rows_length}
 
 -- the least of a list and a number
 record IsLeast (ks : List ℕ) (p n : ℕ) : Type 0 where

@@ -1,5 +1,5 @@
 -- The bytes of units and of ranges on two images of the target.
-use Rattle.std.proofs.Common.{◌≡◌, ◌≢◌, ℕ, zero, suc, ◌+◌, ◌-◌, ◌<◌, ◌≤◌, List, [], length, get_or, inl, inr, sym, ap, subst, ◌∙◌, arith}
+use Rattle.std.proofs.Common.{◌≡◌, ◌≢◌, ℕ, zero, suc, ◌+◌, ◌<◌, ◌≤◌, List, [], length, get_or, inl, inr, sym, ap, subst, ◌∙◌, arith}
 use Rattle.std.proofs.lemmas.Bool.{cases_lt}
 use Rattle.std.proofs.lemmas.List.{length-map, take_all}
 use Rattle.std.proofs.lemmas.List.Concat.{get_or-flat_map}
@@ -10,7 +10,6 @@ use Rattle.sha2.specs.Sha256.{sha256}
 use Rattle.base_fields.specs.declared.spans.Span.{Span}
 use Rattle.span_cover.specs.Cover.{has}
 use Rattle.span_cover.proofs.Spans.{has_in, in_has}
-use Rattle.bench.specs.Disk.{TornAt}
 use Rattle.block_map.specs.Maps.{digest_in, part_of, parts_of, range_span}
 use Rattle.block_map.specs.Pieces.{pieces}
 use Rattle.block_map.specs.Units.{IsRangeOf, first_of, joined, units_by_range, units_of}
@@ -21,7 +20,7 @@ use Rattle.block_map.proofs.Joining.{units_join}
 use Rattle.block_map.proofs.Numbering.{number_is, units_apart}
 use Rattle.journal_format.specs.declared.jobs.JobId.{JobId}
 use Rattle.copy_states.specs.Jobs.{IsInRange, IsJobOf, IsRangeAt, IsUnitAt, SameIn}
-use Rattle.copy_laws.specs.Writes.{IsByteIn, UnitsTorn}
+use Rattle.copy_laws.specs.Writes.{UnitsTorn}
 use Rattle.copy_laws.proofs.Bytes.{same_in, same_parts}
 
 pub some_unit : (id : JobId) (m : BlockMap) → IsJobOf id m → 0 < id.unit
@@ -104,3 +103,9 @@ range_found id m k u is =
     let rows : List (List Span) = units_by_range m id.unit in
     let end : first_of rows (length rows) ≡ length (joined rows) = ap (λ (l : List (List Span)). length (joined l)) (take_all (length rows) rows (omega arith)) in
     found_below rows k (length rows) (omega arith) (omega (arith, slice_get_within (joined rows) k u is))
+
+pub number_found : (id : JobId) (m : BlockMap) (k : ℕ) → IsJobOf id m → k < id.units → (r : ℕ) × IsInRange id m k r
+number_found id m k job below =
+    let rows : List (List Span) = units_by_range m id.unit in
+    let end : first_of rows (length rows) ≡ length (joined rows) = ap (λ (l : List (List Span)). length (joined l)) (take_all (length rows) rows (omega arith)) in
+    found_below rows k (length rows) (omega arith) (omega (arith, job.units))

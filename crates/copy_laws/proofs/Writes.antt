@@ -1,20 +1,16 @@
 -- What a write of units to the target keeps.
-use Rattle.std.proofs.Common.{◌≡◌, ℕ, zero, suc, ◌+◌, ◌<◌, ◌≤◌, List, length, inl, inr, sym, ap, subst, ◌∙◌, arith}
+use Rattle.std.proofs.Common.{◌≡◌, ℕ, ◌+◌, List, inl, inr, sym, ◌∙◌}
 use Rattle.std.proofs.lemmas.Bool.{cases_lt}
-use Rattle.std.proofs.lemmas.Option.{get_or_from_slice_get}
-use Rattle.std.specs.Prelude.{Option, None, Some, IfSome, IsTrue, Contains, slice_get}
-use Rattle.base_fields.specs.declared.spans.Span.{Span}
+use Rattle.std.specs.Prelude.{Option, None, Some, IfSome}
 use Rattle.span_cover.specs.Cover.{has}
-use Rattle.span_cover.proofs.Spans.{has_in, in_has}
-use Rattle.bench.specs.Disk.{Torn}
-use Rattle.block_map.specs.Maps.{digest_in, is_mapped}
+use Rattle.span_cover.proofs.Spans.{has_in}
+use Rattle.block_map.specs.Maps.{digest_in}
 use Rattle.block_map.specs.declared.maps.BlockMap.{BlockMap}
 use Rattle.block_map.specs.declared.maps.Range.{Range}
 use Rattle.block_map.proofs.Numbering.{unit_is}
-use Rattle.journal_format.specs.declared.jobs.JobId.{JobId}
-use Rattle.copy_states.specs.Jobs.{HasFrom, IsInRange, IsJobOf, IsUnitAt, SameIn}
-use Rattle.copy_states.specs.Standing.{HasItsDigest, Since, Standing}
-use Rattle.copy_laws.specs.Writes.{IsByteIn, OneUnitTorn, UnitTorn, WritesKeepBytes, WritesKeepDigests, WritesKeepSince, WritesKeepStanding, WritesKeepTheRest}
+use Rattle.copy_states.specs.Jobs.{HasFrom, SameIn}
+use Rattle.copy_states.specs.Standing.{HasItsDigest}
+use Rattle.copy_laws.specs.Writes.{OneUnitTorn, WritesKeepBytes, WritesKeepDigests, WritesKeepSince, WritesKeepStanding, WritesKeepTheRest}
 use Rattle.copy_laws.proofs.UnitBytes.{other_unit, same_digest, some_unit}
 
 -- a range's digest is that of another image with the same digest there

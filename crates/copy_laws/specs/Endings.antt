@@ -18,7 +18,8 @@ pub record HasOneOutcome (id : JobId) (m : BlockMap) (s : List ℕ) (start : Pai
   pub differing : (r x : ℕ) (want got want_too got_too : List ℕ) → EndsDiffering id m s start r want got →
       EndsDiffering id m s start x want_too got_too → (r ≡ x) × (want ≡ want_too) × (got ≡ got_too)
   pub short_isnt_done : (at : ℕ) → EndsShort id m s start at → ¬ EndsDone id m s start
-  pub differing_isnt_done : (r : ℕ) (want got : List ℕ) → EndsDiffering id m s start r want got → ¬ EndsDone id m s start
+  pub differing_isnt_done : (r : ℕ) (want got : List ℕ) → EndsDiffering id m s start r want got →
+      ¬ EndsDone id m s start
   pub short_isnt_differing : (at r : ℕ) (want got : List ℕ) → EndsShort id m s start at →
       ¬ EndsDiffering id m s start r want got
 

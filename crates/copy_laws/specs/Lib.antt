@@ -9,4 +9,6 @@ pub use Rattle.copy_states.specs.Starts
 pub mod Endings
 pub mod Marks
 pub mod Narrowing
+pub mod Opening
+pub mod Steps
 pub mod Writes

@@ -1,5 +1,5 @@
 -- What writes of marks on the journal keep, of a pair of images; and what stands of itself.
-use Rattle.std.specs.Prelude.{◌≡◌, ℕ, ◌+◌, ◌<◌, List, [], Option, IfSome, Contains, length, map, slice_index_or}
+use Rattle.std.specs.Prelude.{ℕ, ◌<◌, List, [], Option, IfSome, Contains, length, map, slice_index_or}
 use Rattle.base_fields.specs.declared.spans.Span.{Span}
 use Rattle.bench.specs.Disk.{Torn, TornAt}
 use Rattle.block_map.specs.Units.{first_of, units_by_range}

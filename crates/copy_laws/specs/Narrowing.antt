@@ -1,5 +1,5 @@
--- The law from Along to Narrow and Keeps: one start, one position of the copier, and one pair that differs from one with
--- Along only as the event allows that the copier makes there.
+-- The law from Along to Narrow and Keeps: one start, one position of the copier, and one pair that differs from one
+-- with Along only as the event allows that the copier makes there.
 use Rattle.std.specs.Prelude.{◌≡◌, ◌≢◌, ◌⊎◌, ℕ, ◌<◌, List, Option, Contains}
 use Rattle.block_map.specs.declared.maps.BlockMap.{BlockMap}
 use Rattle.journal_format.specs.declared.jobs.JobId.{JobId}
@@ -30,8 +30,8 @@ UnitsAreNear = (id : JobId) (m : BlockMap) (source : Option (List ℕ)) (s : Lis
 -- the write of the present range's mark
 abbrev pub CheckIsNear : Type 0
 CheckIsNear = (id : JobId) (m : BlockMap) (source : Option (List ℕ)) (s : List ℕ) (start : Pair) (w : ℕ) (p : Position)
-    (t j j_new : List ℕ) → IsJobOf id m → Along id m source start w p t j → IsPositionOn id m j w p → p.range < id.ranges →
-    RangeMarkTorn id p.range j j_new → IsNear id m s start w t j_new
+    (t j j_new : List ℕ) → IsJobOf id m → Along id m source start w p t j → IsPositionOn id m j w p →
+    p.range < id.ranges → RangeMarkTorn id p.range j j_new → IsNear id m s start w t j_new
 
 -- the write over the marks of the present range's units, where its digest isn't that of its Mixed
 abbrev pub ClearIsNear : Type 0

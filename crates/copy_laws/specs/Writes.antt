@@ -1,5 +1,5 @@
 -- What a write of units to the target keeps, of a pair of images.
-use Rattle.std.specs.Prelude.{◌≡◌, ℕ, List, Option, Contains, IsTrue}
+use Rattle.std.specs.Prelude.{ℕ, List, Option, Contains, IsTrue}
 use Rattle.base_fields.specs.declared.spans.Span.{Span}
 use Rattle.span_cover.specs.Cover.{has}
 use Rattle.bench.specs.Disk.{Torn, TornAt}

@@ -2,6 +2,8 @@ ghost use Rattle.copy_laws.specs.Endings.{MixedIsOne, OneOutcome};
 ghost use Rattle.copy_laws.specs.Marks.{CheckingKeepsStanding, ClearingKeepsStanding, DoneIsCopied, FirstStart};
 ghost use Rattle.copy_laws.specs.Marks.{ForeignStands, NewStands, RecordingKeepsStanding, UnheldStands};
 ghost use Rattle.copy_laws.specs.Narrowing.{CheckIsNear, ClearIsNear, UnitsAreNear};
+ghost use Rattle.copy_laws.specs.Opening.{ClosingKeepsStanding, MarksKeepOwn, NewHasSameMarks, OpeningIsAlong};
+ghost use Rattle.copy_laws.specs.Steps.{ClosedIsAlong, KeptIsAlong, TakenIsAlong};
 ghost use Rattle.copy_laws.specs.Writes.{OneUnitTorn, WritesKeepBytes, WritesKeepDigests, WritesKeepSince, WritesKeepStanding, WritesKeepTheRest};
 
 /// Nothing is done: the contract is the law of a write to the target.
@@ -62,4 +64,31 @@ pub fn steps_are_narrow()
 pub fn runs_end_one_way()
     ensures mixed { MixedIsOne }
     ensures outcome { OneOutcome }
+{}
+
+/// Nothing is done: the contract is the law of the opening of a run.
+///
+/// A copier that was opened is along for its start, where the journal has the marks that it had there.
+pub fn openings_are_along()
+    ensures new { NewHasSameMarks }
+    ensures along { OpeningIsAlong }
+{}
+
+/// Nothing is done: the contract is the law of the bytes in front of the marks.
+///
+/// A held journal whose gate is torn stands, and one that isn't held, or is opened for the job, stays so
+/// under any marks.
+pub fn gates_keep_standing()
+    ensures closing { ClosingKeepsStanding }
+    ensures own { MarksKeepOwn }
+{}
+
+/// Nothing is done: the contract is the law of the steps of a copier on its way.
+///
+/// It is along at the position behind its present unit, whether that is kept, or is written and joins the
+/// window, or is written and closes it.
+pub fn steps_go_along()
+    ensures kept { KeptIsAlong }
+    ensures taken { TakenIsAlong }
+    ensures closed { ClosedIsAlong }
 {}

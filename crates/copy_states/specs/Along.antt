@@ -20,9 +20,9 @@ pub record IsPresent (checked : ℕ → Type 0) (ranges r : ℕ) : Type 0 where
   pub before : (earlier : ℕ) → earlier < r → checked earlier
   pub unchecked : r < ranges → ¬ checked r
 
--- What holds of the position of a copier that hasn't failed, by what its marks say. The present unit is from the range's
--- first to just past its last; each unit of the range before it is recorded or in the window, and where the window has
--- units, one of the range at or after the present one isn't recorded.
+-- What holds of the position of a copier that hasn't failed, by what its marks say. The present unit is from the
+-- range's first to just past its last; each unit of the range before it is recorded or in the window, and where the
+-- window has units, one of the range at or after the present one isn't recorded.
 pub record IsPosition (id : JobId) (m : BlockMap) (recorded checked : ℕ → Type 0) (w : ℕ) (p : Position) : Type 0 where
   pub present : IsPresent checked id.ranges p.range
   pub low : first_of (units_by_range m id.unit) p.range ≤ p.unit
@@ -38,8 +38,8 @@ pub record IsPosition (id : JobId) (m : BlockMap) (recorded checked : ℕ → Ty
 abbrev pub IsPositionOn : JobId → BlockMap → List ℕ → ℕ → Position → Type 0
 IsPositionOn id m j = IsPosition id m (λ k. IsRecorded id k j) (λ r. IsChecked id r j)
 
--- The run that began on this start has come to the position. A unit is passed where it stands before the present one in
--- a range that isn't checked at the start; the open window is the last idle units that were passed.
+-- The run that began on this start has come to the position. A unit is passed where it stands before the present one
+-- in a range that isn't checked at the start; the open window is the last idle units that were passed.
 pub record Along (id : JobId) (m : BlockMap) (source : Option (List ℕ)) (start : Pair) (w : ℕ) (p : Position)
     (t j : List ℕ) : Type 0 where
   pub few : length p.window < w

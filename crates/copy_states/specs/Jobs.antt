@@ -1,4 +1,4 @@
--- The job of a copy over plain values: its numbers, its units and ranges, and what an image of its journal has recorded.
+-- The job of a copy over plain values: its numbers, its units and ranges, and what an image of its journal records.
 use Rattle.std.specs.Prelude.{◌≡◌, ◌⊎◌, ℕ, ◌+◌, ◌<◌, ◌≤◌, List, length, slice_get, Some}
 use Rattle.base_fields.specs.Numbers.{IsPowerBetween}
 use Rattle.base_fields.specs.declared.spans.Span.{Span}
