@@ -5,6 +5,7 @@ pub mod Events
 pub mod Marks
 pub mod Nearness
 pub mod Opening
+pub mod Ranges
 pub mod Steps
 pub mod UnitBytes
 pub mod Writes

@@ -10,5 +10,6 @@ pub mod Endings
 pub mod Marks
 pub mod Narrowing
 pub mod Opening
+pub mod Ranges
 pub mod Steps
 pub mod Writes

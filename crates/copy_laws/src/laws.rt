@@ -3,6 +3,7 @@ ghost use Rattle.copy_laws.specs.Marks.{CheckingKeepsStanding, ClearingKeepsStan
 ghost use Rattle.copy_laws.specs.Marks.{ForeignStands, NewStands, RecordingKeepsStanding, UnheldStands};
 ghost use Rattle.copy_laws.specs.Narrowing.{CheckIsNear, ClearIsNear, UnitsAreNear};
 ghost use Rattle.copy_laws.specs.Opening.{ClosingKeepsStanding, MarksKeepOwn, NewHasSameMarks, OpeningIsAlong};
+ghost use Rattle.copy_laws.specs.Ranges.{CheckedIsAlong, EndHasMixed};
 ghost use Rattle.copy_laws.specs.Steps.{ClosedIsAlong, KeptIsAlong, TakenIsAlong};
 ghost use Rattle.copy_laws.specs.Writes.{OneUnitTorn, WritesKeepBytes, WritesKeepDigests, WritesKeepSince, WritesKeepStanding, WritesKeepTheRest};
 
@@ -91,4 +92,13 @@ pub fn steps_go_along()
     ensures kept { KeptIsAlong }
     ensures taken { TakenIsAlong }
     ensures closed { ClosedIsAlong }
+{}
+
+/// Nothing is done: the contract is the law of the end of a range.
+///
+/// What the target reads there is made of what was recorded at the start and of the source's bytes; and
+/// behind a range that was checked the copier is along at the next one that isn't.
+pub fn ranges_end_along()
+    ensures mixed { EndHasMixed }
+    ensures checked { CheckedIsAlong }
 {}
