@@ -11,5 +11,6 @@ pub mod Marks
 pub mod Narrowing
 pub mod Opening
 pub mod Ranges
+pub mod Small
 pub mod Steps
 pub mod Writes

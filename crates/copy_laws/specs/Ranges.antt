@@ -20,7 +20,8 @@ EndHasMixed = (id : JobId) (m : BlockMap) (s : List ℕ) (start : Pair) (w : ℕ
     IsJobOf id m → m.size ≤ length start.target → Along id m (Some s) start w p t j → IsPositionOn id m j w p →
     IsAtEnd id m p → HasMixed id m s start p.range t
 
--- where the window is empty and the range is checked, the copier is along at the first unit of the next range that isn't
+-- where the window is empty and the range is checked, the copier is along at the first unit of the next range that
+-- isn't
 abbrev pub CheckedIsAlong : Type 0
 CheckedIsAlong = (id : JobId) (m : BlockMap) (source : Option (List ℕ)) (start : Pair) (w : ℕ) (p next : Position)
     (t j j_new : List ℕ) → IsJobOf id m → Along id m source start w p t j → IsPositionOn id m j w p → IsAtEnd id m p →

@@ -4,6 +4,7 @@ ghost use Rattle.copy_laws.specs.Marks.{ForeignStands, NewStands, RecordingKeeps
 ghost use Rattle.copy_laws.specs.Narrowing.{CheckIsNear, ClearIsNear, UnitsAreNear};
 ghost use Rattle.copy_laws.specs.Opening.{ClosingKeepsStanding, MarksKeepOwn, NewHasSameMarks, OpeningIsAlong};
 ghost use Rattle.copy_laws.specs.Ranges.{CheckedIsAlong, EndHasMixed};
+ghost use Rattle.copy_laws.specs.Small.{SmallIsCopied, SmallIsInOrder};
 ghost use Rattle.copy_laws.specs.Steps.{ClosedIsAlong, KeptIsAlong, TakenIsAlong};
 ghost use Rattle.copy_laws.specs.Writes.{OneUnitTorn, WritesKeepBytes, WritesKeepDigests, WritesKeepSince, WritesKeepStanding, WritesKeepTheRest};
 
@@ -101,4 +102,10 @@ pub fn steps_go_along()
 pub fn ranges_end_along()
     ensures mixed { EndHasMixed }
     ensures checked { CheckedIsAlong }
+{}
+
+/// Nothing is done: the contract is two cases by hand, of a copy of three bytes.
+pub fn small_copies()
+    ensures copied { SmallIsCopied }
+    ensures in_order { SmallIsInOrder }
 {}
