@@ -1,0 +1,4 @@
+-- lemmas
+mod Blocks
+mod Growing
+mod Writes

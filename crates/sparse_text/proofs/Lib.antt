@@ -1,0 +1,4 @@
+-- lemmas
+mod Contents
+pub mod RunLemmas
+mod Texts

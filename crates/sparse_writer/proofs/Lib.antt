@@ -1,0 +1,5 @@
+-- lemmas
+mod Finished
+mod Going
+mod Needed
+mod Sizes
