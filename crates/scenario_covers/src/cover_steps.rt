@@ -1,6 +1,7 @@
 //! Steps on a cover, on the map that is made of it, and on the map's units.
 ghost use Rattle.block_map.specs.Maps.{IsMap};
 
+use crate::ranges::{count, read_ranges};
 use anyhow::{Result, bail};
 use base_fields::Span;
 use block_map::{BlockMap, MAX_RANGES, Range, UnitFault, Units};
@@ -57,6 +58,10 @@ pub enum CoverStep {
         unit: u32,
         number: u64,
     },
+    /// How many blocks are in ranges.
+    BlocksIn {
+        ranges: Vec<Range>,
+    },
     /// All units of the range that has the unit of a number.
     UnitRange {
         size: u64,
@@ -75,7 +80,7 @@ pub struct RangeDigest {
 
 impl CoverStep {
     /// The step of a verb, where it is one of these.
-    pub fn read(verb: &str, words: &mut Arguments) -> Result<Option<CoverStep>> {
+    pub fn read(alloc: Global, verb: &str, words: &mut Arguments) -> Result<Option<CoverStep>> {
         let step = match verb {
             "cover-add" => CoverStep::Add {
                 span: read_span(words)?,
@@ -97,6 +102,9 @@ impl CoverStep {
                 unit: words.word("a unit's size")?,
             },
             "unit" => read_unit(words)?,
+            "blocks-in" => CoverStep::BlocksIn {
+                ranges: read_ranges(alloc, words)?,
+            },
             "unit-range" => read_unit_range(words)?,
             _ => return Ok(None),
         };
@@ -122,6 +130,7 @@ impl CoverStep {
                 unit,
                 number,
             } => one_unit(alloc, cover, size, block, unit, number),
+            CoverStep::BlocksIn { ranges } => count(alloc, &ranges),
             CoverStep::UnitRange {
                 size,
                 block,

@@ -2,5 +2,6 @@
 #![tactic(auto)]
 
 mod cover_steps;
+mod ranges;
 
 pub use cover_steps::{CoverStep, RangeDigest};

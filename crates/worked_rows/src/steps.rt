@@ -101,7 +101,7 @@ fn read_run(alloc: Global, verb: &str, words: &mut Arguments) -> Result<Option<S
 
 /// A step on another object or value.
 fn read_value(alloc: Global, verb: &str, words: &mut Arguments) -> Result<Option<Step>> {
-    if let Some(step) = CoverStep::read(verb, words)? {
+    if let Some(step) = CoverStep::read(alloc, verb, words)? {
         return Ok(Some(Step::Cover(step)));
     }
     if let Some(step) = SparseStep::read(verb, words)? {
