@@ -133,7 +133,8 @@ fn record_entry(part: &PartitionSection, claim: &Claim) -> MbrEntry
 fn chain_spec(part: &PartitionSection, claim: &Claim) -> LogicalSpec
     requires within { IsPartitionWithin part.now }
     requires fits { FitsRecord claim.now }
-    ensures { result ≡ logical_spec_of part.now (unwrap_or claim.now.place.head 0) claim.now.place.at claim.now.place.size }
+    ensures { result ≡ logical_spec_of part.now
+        (unwrap_or claim.now.place.head 0) claim.now.place.at claim.now.place.size }
 {
     let place = claim.place();
     logical_spec(part, place.head.unwrap_or(0), place.at, place.size)
@@ -149,7 +150,8 @@ fn guid_entry(
 ) -> Result<GptEntry, NoMemory>
     requires within { IsPartitionWithin part.now }
     requires sector { IsSector sector }
-    ensures { IfOk result (λ entry. entry ≡ gpt_entry_of image.now part.now claim.now.place.at claim.now.place.size sector) }
+    ensures { IfOk result (λ entry. entry ≡ gpt_entry_of
+        image.now part.now claim.now.place.at claim.now.place.size sector) }
 {
     let _end = claim.end();
     let place = claim.place();

@@ -1,5 +1,5 @@
 //! Where the extended partition reaches, and which primary partition meets it.
-ghost use Rattle.std.specs.Prelude.{◌≡◌, ℕ, ◌≤◌, ◌^◌};
+ghost use Rattle.std.specs.Prelude.{◌≡◌};
 ghost use Rattle.placement.specs.Layouts.{is_primary};
 ghost use Rattle.placement.specs.Said.{extended_start, in_extended, is_primary_in, logical_ends};
 ghost use Rattle.placement_rules.specs.Places.{greatest};

@@ -1,5 +1,5 @@
 //! Faults with the names of what is at fault.
-ghost use Rattle.std.specs.Prelude.{◌≡◌, ◌<◌, Some, IfOk, codes, length};
+ghost use Rattle.std.specs.Prelude.{◌≡◌, ◌<◌, Some, IfOk, length};
 ghost use Rattle.placement.specs.Said.{IsFaultKnown, IsFaultOf, IsKnown, met_name, name_at, named};
 ghost use Rattle.placement_rules.specs.Terms.{names_of};
 

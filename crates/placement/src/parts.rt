@@ -18,7 +18,8 @@ pub fn parts_of(alloc: Global, spec: &ImageSpec, claims: &[Claim]) -> Result<Lis
     requires names { length claims.now ≡ length (names_of spec.now) }
     requires sources { length claims.now ≡ length spec.now.sources }
     requires wholes { length claims.now ≡ length (wholes_as spec.now.kind spec.now.keys.parts) }
-    ensures { IfOk result (λ parts. parts ≡ parts_from (names_of spec.now) spec.now.sources (wholes_as spec.now.kind spec.now.keys.parts) claims.now) }
+    ensures { IfOk result (λ parts. parts ≡ parts_from
+        (names_of spec.now) spec.now.sources (wholes_as spec.now.kind spec.now.keys.parts) claims.now) }
 {
     let sources = spec.sources.as_slice();
     let mut parts = List::new(alloc);

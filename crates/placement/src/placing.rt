@@ -28,7 +28,8 @@ pub fn place(alloc: Global, spec: &ImageSpec, lens: &[u64]) -> Result<Layout, Pl
     requires spec { IsSpec spec.now }
     requires kind { IsTrue (is_placed spec.now.kind) }
     requires lens { length lens.now ≡ length spec.now.sources }
-    ensures placed { IfOk result (λ layout. (refusal spec.now lens.now ≡ None) × (layout ≡ layout_of spec.now lens.now)) }
+    ensures placed { IfOk result (λ layout.
+        (refusal spec.now lens.now ≡ None) × (layout ≡ layout_of spec.now lens.now)) }
     ensures refused { IfErr result (IsFaultOf (refusal spec.now lens.now)) }
 {
     let frame = frame_of(spec);
@@ -51,7 +52,8 @@ fn stand_all(
     requires names { length terms.now ≡ length (names_of spec.now) }
     requires holes { length terms.now ≡ length (holes_of spec.now) }
     ensures ok { IfOk result (AreWalked frame.now (stood_from frame.now [] terms.now (holes_of spec.now))) }
-    ensures err { IfErr result (IsFaultOf (partition_fault spec.now frame.now (stood_from frame.now [] terms.now (holes_of spec.now)))) }
+    ensures err { IfErr result (IsFaultOf
+        (partition_fault spec.now frame.now (stood_from frame.now [] terms.now (holes_of spec.now)))) }
 {
     match walk(alloc, spec, frame, terms) {
         Ok(placed) => Ok(placed),
@@ -68,7 +70,8 @@ fn finish(
     placed: &Earlier,
 ) -> Result<Layout, PlaceFault>
     requires { AreStood spec.now frame.now placed.now }
-    ensures ok { IfOk result (λ layout. (image_last spec.now frame.now placed.now ≡ None) × (layout ≡ layout_in spec.now frame.now placed.now)) }
+    ensures ok { IfOk result (λ layout.
+        (image_last spec.now frame.now placed.now ≡ None) × (layout ≡ layout_in spec.now frame.now placed.now)) }
     ensures err { IfErr result (IsFaultOf (image_last spec.now frame.now placed.now)) }
 {
     check_last(alloc, spec, frame, placed)?;

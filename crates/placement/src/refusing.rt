@@ -1,6 +1,5 @@
 //! What refuses an image by its own numbers, in front of its partitions and behind them.
-ghost use Rattle.std.specs.Prelude.{◌≡◌, None, Some, IfErr, OnOk, length, unwrap_or};
-ghost use Rattle.image_specs.specs.IsSpec.{IsSpec};
+ghost use Rattle.std.specs.Prelude.{◌≡◌, None, Some, IfErr, OnOk, length};
 ghost use Rattle.placement.specs.Layouts.{needs_of};
 ghost use Rattle.placement.specs.Said.{IsFaultOf, above_most, extended_overlap, image_first, image_last, image_misaligned, too_many_entries, too_small};
 ghost use Rattle.placement_rules.specs.Bounds.{IsFrame};
@@ -71,7 +70,8 @@ fn check_count(spec: &ImageSpec, frame: &Frame) -> Result<(), PlaceFault>
 /// The size or the place of the entries, where it isn't a multiple of a sector.
 fn misaligned(frame: &Frame) -> Option<u64>
     requires { IsFrame frame.now }
-    ensures { result ≡ where_so (has_table frame.now.table) (off_multiple frame.now.size frame.now.sector or off_multiple (Some frame.now.entries_at) frame.now.sector) }
+    ensures { result ≡ where_so (has_table frame.now.table)
+        (off_multiple frame.now.size frame.now.sector or off_multiple (Some frame.now.entries_at) frame.now.sector) }
 {
     if !has_table(frame.table) {
         return None;

@@ -1,11 +1,9 @@
 //! The tables of an image.
-ghost use Rattle.std.specs.Prelude.{◌≡◌, ◌≢◌, ℕ, ◌+◌, ◌*◌, ◌/◌, ◌≤◌, ◌∷◌, ◌++◌, [], All, IfOk, IsTrue, length, slice_index_or};
-ghost use Rattle.extended_chain.specs.Extended.{extended_entry_of};
-ghost use Rattle.hybrid_table.specs.Hybrid.{hybrid_spec};
-ghost use Rattle.mbr_table.specs.Mbr.{no_entry, protective};
+ghost use Rattle.std.specs.Prelude.{◌≡◌, ◌∷◌, ◌++◌, [], All, IfOk, IsTrue, slice_index_or};
+ghost use Rattle.mbr_table.specs.Mbr.{no_entry};
 ghost use Rattle.placement.specs.Fitting.{AreSettled, IsChained};
-ghost use Rattle.placement.specs.Layouts.{extended_entries, guid_for, guid_spec, hybrid_entries, hybrid_for, image_size, logical_for, logical_specs, mbr_for, mbr_spec, primary_entries, slots};
-ghost use Rattle.placement_rules.specs.Frames.{has_guid, is_hybrid, is_mbr};
+ghost use Rattle.placement.specs.Layouts.{extended_entries, guid_for, guid_spec, hybrid_for, image_size, logical_for, mbr_for, slots};
+ghost use Rattle.placement_rules.specs.Frames.{has_guid};
 
 use crate::entries;
 use base_fields::{List, NoMemory, TableKind};
@@ -139,7 +137,11 @@ fn entry_at(entries: &[MbrEntry], k: usize) -> MbrEntry
 
 /// The four slots of a record: an entry, and up to three behind it.
 fn guarded(first: MbrEntry, entries: &[MbrEntry]) -> [MbrEntry; 4]
-    ensures { result ≡ first ∷ slice_index_or entries.now 0 no_entry ∷ slice_index_or entries.now 1 no_entry ∷ slice_index_or entries.now 2 no_entry ∷ [] }
+    ensures { result ≡ first
+        ∷ slice_index_or entries.now 0 no_entry
+        ∷ slice_index_or entries.now 1 no_entry
+        ∷ slice_index_or entries.now 2 no_entry
+        ∷ [] }
 {
     [
         first,

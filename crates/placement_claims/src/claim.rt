@@ -1,8 +1,8 @@
-ghost use Rattle.std.specs.Prelude.{◌≡◌, ◌≢◌, ℕ, ◌+◌, ◌^◌, ◌≤◌, ◌↔◌, IsTrue, IfOk, IfSome};
+ghost use Rattle.std.specs.Prelude.{◌≡◌, ℕ, ◌+◌, ◌^◌, ◌≤◌, ◌↔◌, IsTrue, IfOk};
 ghost use Rattle.placement_claims.specs.Held.{IsHeld, in_place, is_late};
 ghost use Rattle.placement_rules.specs.Claims.{in_run, meets, occupies};
 ghost use Rattle.placement_rules.specs.Faults.{begins_below, clashes, has_logical};
-ghost use Rattle.placement_rules.specs.Places.{Stood, end_of};
+ghost use Rattle.placement_rules.specs.Places.{end_of};
 ghost use Rattle.span_cover.specs.Cover.{covers};
 
 use crate::pieces::{add_record, left, share};

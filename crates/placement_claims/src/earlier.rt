@@ -1,7 +1,7 @@
-ghost use Rattle.std.specs.Prelude.{◌≡◌, ℕ, ◌+◌, ◌^◌, ◌≤◌, ◌++◌, ◌∷◌, [], IfOk, map};
+ghost use Rattle.std.specs.Prelude.{◌≡◌, ◌^◌, ◌≤◌, ◌++◌, ◌∷◌, [], IfOk, map};
 ghost use Rattle.base_fields.specs.Results.{provided};
 ghost use Rattle.placement_rules.specs.Faults.{◌or◌, first_clash};
-ghost use Rattle.placement_rules.specs.Places.{Stood, end_of, greatest};
+ghost use Rattle.placement_rules.specs.Places.{end_of, greatest};
 
 use crate::claim::Claim;
 use crate::pieces::add_all;

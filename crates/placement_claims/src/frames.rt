@@ -1,4 +1,4 @@
-ghost use Rattle.std.specs.Prelude.{◌≡◌, ℕ, ◌≤◌};
+ghost use Rattle.std.specs.Prelude.{◌≡◌};
 ghost use Rattle.placement_claims.specs.Held.{IsFramed, met_front};
 ghost use Rattle.placement_rules.specs.Faults.{met};
 

@@ -1,5 +1,5 @@
 //! One partition in its place, by the numbers of those before it.
-ghost use Rattle.std.specs.Prelude.{◌≡◌, ℕ, ◌≤◌, ◌^◌, None, IfOk, IfErr, OnOk};
+ghost use Rattle.std.specs.Prelude.{◌≡◌, ◌≤◌, ◌^◌, None, IfOk, IfErr, OnOk};
 ghost use Rattle.placement_rules.specs.Bounds.{IsFrame, IsTerms};
 ghost use Rattle.placement_rules.specs.Faults.{overlap, own_fault, part_fault};
 ghost use Rattle.placement_rules.specs.Places.{highest, stood_at, stood_of};
@@ -23,7 +23,8 @@ pub fn step(
     requires frame { IsFrame frame.now }
     requires terms { IsTerms terms.now }
     ensures ok { IfOk result (IsBehind frame.now earlier (stood_of frame.now earlier terms.now holes.now)) }
-    ensures err { IfErr result (IsStepFault (part_fault frame.now earlier (stood_of frame.now earlier terms.now holes.now))) }
+    ensures err { IfErr result (IsStepFault
+        (part_fault frame.now earlier (stood_of frame.now earlier terms.now holes.now))) }
 {
     let claim = hold(alloc, frame, terms, holes, highest(frame, &earlier))?;
     check_meeting(frame, &earlier, &claim)?;

@@ -1,5 +1,4 @@
-ghost use Rattle.std.specs.Prelude.{◌≡◌, ℕ, ◌<◌, ◌≤◌, [], IfOk, IfErr, length, slice_index_or};
-ghost use Rattle.image_specs.specs.IsSpec.{IsSpec};
+ghost use Rattle.std.specs.Prelude.{◌≡◌, ◌<◌, [], IfOk, IfErr, length, slice_index_or};
 ghost use Rattle.placement_rules.specs.Bounds.{AreTerms, IsFrame};
 ghost use Rattle.placement_rules.specs.Faults.{first_fault};
 ghost use Rattle.placement_rules.specs.Places.{stood_from};
@@ -15,7 +14,8 @@ use placement_claims::Earlier;
 use placement_rules::{Frame, Terms};
 use std::alloc::Global;
 
-/// All partitions of an image in their places, by what the rules look at of each, or the first that can't stand and why.
+/// All partitions of an image in their places, by what the rules look at of each, or the first that can't stand and
+/// why.
 pub fn walk(
     alloc: Global,
     spec: &ImageSpec,
@@ -26,7 +26,8 @@ pub fn walk(
     requires terms { AreTerms terms.now }
     requires holes { length terms.now ≡ length (holes_of spec.now) }
     ensures ok { IfOk result (AreWalked frame.now (stood_from frame.now [] terms.now (holes_of spec.now))) }
-    ensures err { IfErr result (IsWalkFault (first_fault frame.now [] (stood_from frame.now [] terms.now (holes_of spec.now)))) }
+    ensures err { IfErr result (IsWalkFault
+        (first_fault frame.now [] (stood_from frame.now [] terms.now (holes_of spec.now)))) }
 {
     let mut earlier = Earlier::new(alloc);
     for number in 0..terms.len() {
