@@ -1,5 +1,5 @@
 //! Steps on layouts.
-use crate::planning::{Plan, plan};
+use crate::planning::{Plan, plan_of};
 use crate::shown_layout::ShownLayout;
 use crate::shown_refusal::ShownPlaceFault;
 use anyhow::Result;
@@ -42,7 +42,7 @@ impl LayoutStep {
 
 fn show_layout(setting: &mut Setting, conf: &str, image: &str) -> Result<String> {
     let alloc = setting.alloc;
-    match &plan(setting, conf, image)? {
+    match &plan_of(setting, conf, image)? {
         Plan::Placed(layout) => {
             let shown = ShownLayout(layout);
             Ok(format!(in alloc; "layout {shown}")?)
@@ -57,7 +57,7 @@ fn show_layout(setting: &mut Setting, conf: &str, image: &str) -> Result<String>
 /// Each span of the cover as its place and its length.
 fn show_covered(setting: &mut Setting, conf: &str, image: &str) -> Result<String> {
     let alloc = setting.alloc;
-    match &plan(setting, conf, image)? {
+    match &plan_of(setting, conf, image)? {
         Plan::Placed(layout) => {
             let cover = layout.covered(alloc)?;
             let mut line = String::from_str(alloc, "covered")?;

@@ -8,6 +8,6 @@ mod shown_layout;
 mod shown_refusal;
 
 pub use layout_steps::LayoutStep;
-pub use planning::{Plan, plan};
+pub use planning::{Plan, plan_of};
 pub use shown_layout::ShownLayout;
 pub use shown_refusal::ShownPlaceFault;

@@ -1,8 +1,9 @@
 //! The layout of an image by what the files of a scenario say.
-ghost use Rattle.std.specs.Prelude.{◌≡◌, None, IfOk};
-ghost use Rattle.image_layout.specs.IsLayout.{IsLayout};
+ghost use Rattle.std.specs.Prelude.{◌≡◌, ◌≤◌, All, IfOk, IsTrue, None, length};
+ghost use Rattle.conf_keys.specs.declared.conf.Kind.TheVariants.{Flash};
 ghost use Rattle.image_specs.specs.IsSpec.{IsSpec};
 ghost use Rattle.placement_apart.specs.Apart.{AreLengths};
+ghost use Rattle.placement_rules.specs.Bounds.{is_placed};
 ghost use Rattle.scenario_layouts.specs.Plans.{IsPlan};
 
 use anyhow::{Result, bail};
@@ -15,6 +16,7 @@ use outside::{FileErr, Files};
 use placed_layouts::placed_is_layout;
 use placement::{PlaceFault, place};
 use scenario_words::Setting;
+use std::alloc::Global;
 
 /// What placing an image gives.
 #[derive(Debug, Drop)]
@@ -26,7 +28,7 @@ pub enum Plan {
 }
 
 /// The plan of an image of a configuration, by the lengths of the files that it is made of.
-pub fn plan(setting: &mut Setting, conf: &str, image: &str) -> Result<Plan>
+pub fn plan_of(setting: &mut Setting, conf: &str, image: &str) -> Result<Plan>
     ensures { IfOk result IsPlan }
 {
     let graph = read_graph(setting, conf)?;
@@ -67,6 +69,7 @@ fn placed(setting: &mut Setting, spec: &ImageSpec) -> Result<Plan>
 fn on_disk(alloc: Global, spec: &ImageSpec, lens: &[u64]) -> Result<Plan>
     requires spec { IsSpec spec.now }
     requires kind { IsTrue (is_placed spec.now.kind) }
+    requires many { length lens.now ≡ length spec.now.sources }
     requires lengths { AreLengths spec.now.sources lens.now }
     ensures { IfOk result IsPlan }
 {
@@ -97,8 +100,10 @@ fn on_flash(alloc: Global, spec: &ImageSpec, lens: &[u64]) -> Result<Plan>
 }
 
 /// The length of each source's file, and 0 where it has none.
+#[tactic(auto, using(crate::proofs::Lengths::lengths_more))]
 fn lengths(setting: &mut Setting, sources: &[Source]) -> Result<List<u64>>
-    ensures { IfOk result (λ lens. AreLengths sources.now lens) }
+    ensures many { IfOk result (λ lens. length lens ≡ length sources.now) }
+    ensures lengths { IfOk result (λ lens. AreLengths sources.now lens) }
 {
     let mut lens = List::new(setting.alloc);
     for source in sources {
