@@ -42,7 +42,8 @@ placed_of part source len s = record {
 
 -- one for each partition, in order
 abbrev pub parts_from : List PartitionSection → List Source → List ℕ → List Span → List Placed
-parts_from (part ∷ parts) (source ∷ sources) (len ∷ lens) (s ∷ ss) = placed_of part source len s ∷ parts_from parts sources lens ss
+parts_from (part ∷ parts) (source ∷ sources) (len ∷ lens) (s ∷ ss) =
+    placed_of part source len s ∷ parts_from parts sources lens ss
 parts_from _ _ _ _ = []
 
 -- no table, FF where no file has a byte, and every byte covered

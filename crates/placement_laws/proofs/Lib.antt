@@ -1,5 +1,6 @@
 -- lemmas
 pub mod Exactly
+pub mod Firsts
 pub mod Images
 pub mod Lists
 pub mod Multiples

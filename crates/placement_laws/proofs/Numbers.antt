@@ -68,10 +68,10 @@ align_has hd part =
       own = λ n is. ap (λ o. unwrap_or o rest) is;
       outside = λ none out. ap (λ o. unwrap_or o rest) none ∙ ap (λ b. cond b whole 1) out;
       image = λ none inside n is. ap (λ o. unwrap_or o rest) none ∙ ap (λ b. cond b whole 1) inside ∙ ap (λ o. unwrap_or o (default_align hd.partition_table_type)) is;
-      sector = λ none inside no kind.
-          ap (λ o. unwrap_or o rest) none ∙ ap (λ b. cond b whole 1) inside ∙ ap (λ o. unwrap_or o (default_align hd.partition_table_type)) no ∙ ap default_align kind;
-      mebibyte = λ none inside no other.
-          ap (λ o. unwrap_or o rest) none ∙ ap (λ b. cond b whole 1) inside ∙ ap (λ o. unwrap_or o (default_align hd.partition_table_type)) no ∙ default_guid hd.partition_table_type part inside other;
+      sector = λ takes kind.
+          ap (λ o. unwrap_or o rest) takes.0 ∙ ap (λ b. cond b whole 1) takes.1 ∙ ap (λ o. unwrap_or o (default_align hd.partition_table_type)) takes.2 ∙ ap default_align kind;
+      mebibyte = λ takes other.
+          ap (λ o. unwrap_or o rest) takes.0 ∙ ap (λ b. cond b whole 1) takes.1 ∙ ap (λ o. unwrap_or o (default_align hd.partition_table_type)) takes.2 ∙ default_guid hd.partition_table_type part takes.1 other;
     }
 
 -- ---- logical ones
@@ -140,15 +140,15 @@ narrow_is hd parts k part =
             let inner = and_parts (is_hybrid t) (is_typed t part) outer.0 in
             let own = and_parts (in_table t part) (is_some part.partition_type) inner.1 in
             let less : length (filter (is_typed hd.partition_table_type) (take k parts)) < 3 = ltb-true _ _ outer.1 in
-            inr (hybrid_is t inner.0, own.0, own.1, omega arith))
+            inr (hybrid_is t inner.0, own.0, (own.1, omega arith)))
       ],
       λ h. elim h [
         | inl mbr ↦ left (is_mbr t && in_table t part) (is_hybrid t && is_typed t part && few) (and_from (is_mbr t) (in_table t part) (ap is_mbr mbr.0) mbr.1)
         | inr hybrid ↦
             right (is_mbr t && in_table t part) (is_hybrid t && is_typed t part && few)
             (and_from (is_hybrid t && is_typed t part) few
-            (and_from (is_hybrid t) (is_typed t part) (ap is_hybrid hybrid.0) (and_from (in_table t part) (is_some part.partition_type) hybrid.1 hybrid.2))
-            (lt-ltb _ _ (omega (arith, hybrid.3))))
+            (and_from (is_hybrid t) (is_typed t part) (ap is_hybrid hybrid.0) (and_from (in_table t part) (is_some part.partition_type) hybrid.1 hybrid.2.0))
+            (lt-ltb _ _ (omega (arith, hybrid.2.1))))
       ],
     )
   where

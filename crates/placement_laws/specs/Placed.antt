@@ -46,8 +46,8 @@ pub record IsGreatestMultiple (n to r : ℕ) : Type 0 where
   pub not_above : r ≤ n
   pub greatest : (m : ℕ) → m % to ≡ 0 → m ≤ n → m ≤ r
 
--- the room from a place to the last multiple of the align that isn't above the start of the backup, or above the image's
--- size where it has none; no room where the image has no size
+-- the room from a place to the last multiple of the align that isn't above the start of the backup, or above the
+-- image's size where it has none; no room where the image has no size
 abbrev pub HasRoomIn : Frame → Terms → Option ℕ → ℕ → ℕ → Type 0
 HasRoomIn frame t None at room = room ≡ 0
 HasRoomIn frame t (Some size) at room =

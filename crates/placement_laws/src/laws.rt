@@ -1,3 +1,4 @@
+ghost use Rattle.placement_laws.specs.Firsts.{FirstsExactly};
 ghost use Rattle.placement_laws.specs.Laws.{NoneEarlier, PlacedExactly};
 ghost use Rattle.placement_laws.specs.Terms.{TermsExactly};
 
@@ -19,4 +20,10 @@ pub fn no_place_is_earlier()
 /// bits and whether it is the last. It does nothing when it runs.
 pub fn terms_by_number()
     ensures { TermsExactly }
+{}
+
+/// The refusal of partitions is that of the first one that is refused, behind all that are listed
+/// before it, and there is none exactly where none of them is. It does nothing when it runs.
+pub fn first_refusals_come_first()
+    ensures { FirstsExactly }
 {}

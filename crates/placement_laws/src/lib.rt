@@ -4,4 +4,6 @@
 
 mod laws;
 
-pub use laws::{no_place_is_earlier, partitions_are_placed, terms_by_number};
+pub use laws::{
+    first_refusals_come_first, no_place_is_earlier, partitions_are_placed, terms_by_number,
+};

@@ -41,7 +41,8 @@ impl AnswerStep {
     }
 }
 
-fn show_answer(alloc: Global, answer: &Answer) -> Result<String> {
+/// The status and the line of an answer.
+pub fn show_answer(alloc: Global, answer: &Answer) -> Result<String> {
     let mut room = [0; LINE_ROOM];
     let len = error_line(answer, &mut room);
     let status = answer.status();

@@ -6,7 +6,7 @@ mod line_steps;
 mod printing;
 mod reading;
 
-pub use answer_steps::AnswerStep;
+pub use answer_steps::{AnswerStep, show_answer};
 pub use line_steps::LineStep;
 pub use printing::{PrintStep, printer_of, put_kept};
 pub use reading::read_answer;

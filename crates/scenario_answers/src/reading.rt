@@ -3,6 +3,8 @@ use answer_lines::{Answer, Report};
 use anyhow::{Result, bail};
 use base_fields::Name;
 use hex::FromHex;
+use journal_format::JobId;
+use scenario_devices::device_of;
 use scenario_words::Arguments;
 use std::alloc::Global;
 
@@ -68,6 +70,9 @@ fn other_answer(alloc: Global, kind: &str, words: &mut Arguments) -> Result<Opti
         return Ok(Some(answer));
     }
     if let Some(answer) = copy_answer(alloc, kind, words)? {
+        return Ok(Some(answer));
+    }
+    if let Some(answer) = device_answer(kind, words)? {
         return Ok(Some(answer));
     }
     file_answer(alloc, kind, words)
@@ -291,6 +296,26 @@ fn copy_answer(alloc: Global, kind: &str, words: &mut Arguments) -> Result<Optio
     Ok(Some(answer))
 }
 
+/// An answer about the devices of a copy.
+fn device_answer(kind: &str, words: &mut Arguments) -> Result<Option<Answer>> {
+    let answer = match kind {
+        "JournalHeld" => Answer::JournalHeld {
+            kept: read_job(words)?,
+            finished: words.truth("finished")?,
+        },
+        "JournalForeign" => Answer::JournalForeign {
+            kept: read_job(words)?,
+            given: read_job(words)?,
+            length: words.number("length")?,
+        },
+        "DeviceFault" => Answer::DeviceFault {
+            dev: device_of(&words.text("target or journal")?)?,
+        },
+        _ => return Ok(None),
+    };
+    Ok(Some(answer))
+}
+
 /// An answer about a file or a range.
 fn file_answer(alloc: Global, kind: &str, words: &mut Arguments) -> Result<Option<Answer>> {
     let answer = match kind {
@@ -322,6 +347,18 @@ fn file_answer(alloc: Global, kind: &str, words: &mut Arguments) -> Result<Optio
 fn read_name(alloc: Global, words: &mut Arguments) -> Result<Name> {
     let text = words.text("a name")?;
     Ok(Name::of(alloc, &text)?)
+}
+
+/// A job by its digest and its five numbers.
+fn read_job(words: &mut Arguments) -> Result<JobId> {
+    Ok(JobId {
+        digest: read_digest(words)?,
+        size: words.number("size")?,
+        block: words.word("block")?,
+        unit: words.word("unit")?,
+        units: words.number("units")?,
+        ranges: words.number("ranges")?,
+    })
 }
 
 fn read_digest(words: &mut Arguments) -> Result<[u8; 32]> {

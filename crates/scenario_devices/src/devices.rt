@@ -10,9 +10,10 @@ use std::alloc::Global;
 /// A target and a journal in memory, both attached.
 #[derive(Debug, Drop)]
 pub struct Devices {
-    bench: MemBench,
-    ghost target: { IsAttached (⟦<MemBench as Bench>⟧.meter bench) Target },
-    ghost journal: { IsAttached (⟦<MemBench as Bench>⟧.meter bench) Journal },
+    /// The bench itself. A call that leaves both devices attached may be made on it.
+    pub bench: MemBench,
+    pub ghost target: { IsAttached (⟦<MemBench as Bench>⟧.meter bench) Target },
+    pub ghost journal: { IsAttached (⟦<MemBench as Bench>⟧.meter bench) Journal },
 }
 
 impl Devices {

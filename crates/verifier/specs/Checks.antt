@@ -1,5 +1,6 @@
 -- When a target has what a map says of it, and why it is refused.
-use Rattle.std.specs.Prelude.{◌≡◌, ◌≢◌, ℕ, ◌<◌, ◌≤◌, List, length, take, All, count_by, sum_by, is_some, slice_index_or, Some, IfSome, Result, Ok, Err}
+use Rattle.std.specs.Prelude.{◌≡◌, ◌≢◌, ℕ, ◌<◌, ◌≤◌, List, length, take, All, count_by, sum_by, is_some, slice_index_or}
+use Rattle.std.specs.Prelude.{Some, IfSome, Result, Ok, Err}
 use Rattle.outside.specs.Counts.{Rose}
 use Rattle.bench.specs.declared.Dev.TheVariants.{Target}
 use Rattle.bench.specs.Meter.{Meter}
@@ -68,5 +69,6 @@ IsVerifyFault m old new (DeviceFault dev) = (dev ≡ Target) × Rose old.faults.
 -- why a range isn't the one that the map has, with the digest that the map has of it
 abbrev pub IsRangeFault : Type 0 → BlockMap → List ℕ → ℕ → List ℕ → Meter → Meter → VerifyFault → Type 0
 IsRangeFault told m bytes k want old new (TargetTooSmall has needs) = ⊥
-IsRangeFault told m bytes k want old new (TargetDiffers at stated got) = (at ≡ k) × (stated ≡ want) × (want ≢ got) × (told → IsDigestIn m bytes k got)
+IsRangeFault told m bytes k want old new (TargetDiffers at stated got) =
+    (at ≡ k) × (stated ≡ want) × (want ≢ got) × (told → IsDigestIn m bytes k got)
 IsRangeFault told m bytes k want old new (DeviceFault dev) = (dev ≡ Target) × Rose old.faults.target new.faults.target

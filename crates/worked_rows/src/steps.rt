@@ -6,6 +6,7 @@ use scenario_answers::AnswerStep;
 use scenario_covers::CoverStep;
 use scenario_devices::BenchStep;
 use scenario_files::{CallStep, FileStep};
+use scenario_journals::JournalStep;
 use scenario_tables::{PoolStep, SlotStep, SparseStep, TableStep, ValueStep};
 use scenario_texts::TextStep;
 use scenario_words::Arguments;
@@ -40,6 +41,8 @@ pub enum Step {
     Pool(PoolStep),
     /// The bench.
     Bench(BenchStep),
+    /// The journal on the bench.
+    Journal(JournalStep),
 }
 
 impl Step {
@@ -75,6 +78,7 @@ impl Step {
             Step::Values(step) => step.play(&mut world.setting),
             Step::Pool(step) => step.play(alloc),
             Step::Bench(step) => step.play(&world.setting, &mut world.devices),
+            Step::Journal(step) => step.play(alloc, &mut world.devices, &mut world.job),
         }
     }
 }
@@ -121,6 +125,9 @@ fn read_value(alloc: Global, verb: &str, words: &mut Arguments) -> Result<Option
     }
     if let Some(step) = BenchStep::read(alloc, verb, words)? {
         return Ok(Some(Step::Bench(step)));
+    }
+    if let Some(step) = JournalStep::read(alloc, verb, words)? {
+        return Ok(Some(Step::Journal(step)));
     }
     Ok(None)
 }

@@ -1,5 +1,6 @@
 //! What the steps of a scenario act on.
 use scenario_devices::Devices;
+use scenario_journals::Job;
 use scenario_words::Setting;
 use span_cover::Cover;
 use std::alloc::Global;
@@ -10,6 +11,7 @@ pub struct World {
     pub setting: Setting,
     pub cover: Cover,
     pub devices: Option<Devices>,
+    pub job: Option<Job>,
 }
 
 impl World {
@@ -19,6 +21,7 @@ impl World {
             setting: Setting::new(alloc),
             cover: Cover::new(alloc),
             devices: None,
+            job: None,
         }
     }
 }

@@ -1,10 +1,10 @@
-use Rattle.std.proofs.Common.{◌+◌, ◌*◌, ◌/◌, ◌≡◌, ◌≤◌, length, take}
-use Rattle.std.specs.Prelude.{All}
+use Rattle.std.proofs.Common.{◌≡◌, ◌≤◌, length, take}
 use Rattle.bench.specs.declared.Dev.{Dev}
 use Rattle.bench.specs.declared.Dev.TheVariants.{Target}
 use Rattle.bench.specs.Disk.{Looked, StillLeaves}
 use Rattle.bench.specs.Meter.{CostsOn, IsAttached, SameNames}
-use Rattle.verifier.specs.Checks.{HasOwnDigest, bytes_among, digests_among}
+use Rattle.verifier.specs.Checks.{digests_among}
+use Rattle.verifier.proofs.Checked.{HaveOwn, most_for}
 use Rattle.verifier.proofs.verifying.check_ranges.Given as goal
 
 -- so many ranges are looked at
@@ -16,9 +16,9 @@ invariant-loop-k g l =
       room : 16384 ≤ length l.buf;
       few : l.checked ≤ l.k;
       counted : l.checked ≡ digests_among (take l.k l.map.ranges);
-      each : bench.told → All (HasOwnDigest l.map ((bench.disk l.fn.bench).reads Target)) (take l.k l.map.ranges);
+      each : bench.told → HaveOwn l.map ((bench.disk l.fn.bench).reads Target) l.k;
       looked : Looked (bench.disk l.fn.bench) (bench.disk l.bench);
       stays : (each : Dev) → StillLeaves each (bench.disk l.fn.bench) (bench.disk l.bench);
-      bill : CostsOn Target (32 * l.k + bytes_among l.map (take l.k l.map.ranges) / 512) (bench.meter l.fn.bench) (bench.meter l.bench);
+      bill : CostsOn Target (most_for l.map l.k) (bench.meter l.fn.bench) (bench.meter l.bench);
       same_names : SameNames (bench.meter l.fn.bench) (bench.meter l.bench);
     }

@@ -1,0 +1,4 @@
+-- lemmas
+pub mod Made
+pub mod Sources
+pub mod Wanted

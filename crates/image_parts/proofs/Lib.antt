@@ -1,0 +1,4 @@
+-- lemmas
+pub mod AllParts
+mod Holes
+mod Pieces

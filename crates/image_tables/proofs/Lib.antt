@@ -1,0 +1,4 @@
+-- lemmas
+mod Chain
+mod Headers
+pub mod Serving
