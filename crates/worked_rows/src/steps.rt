@@ -7,6 +7,7 @@ use scenario_covers::CoverStep;
 use scenario_devices::BenchStep;
 use scenario_files::{CallStep, FileStep};
 use scenario_journals::JournalStep;
+use scenario_layouts::LayoutStep;
 use scenario_tables::{PoolStep, SlotStep, SparseStep, TableStep, ValueStep};
 use scenario_texts::TextStep;
 use scenario_words::Arguments;
@@ -27,6 +28,8 @@ pub enum Step {
     Answers(AnswerStep),
     /// Texts of configurations.
     Texts(TextStep),
+    /// Layouts of images.
+    Layouts(LayoutStep),
     /// The cover.
     Cover(CoverStep),
     /// Sparse files.
@@ -71,6 +74,7 @@ impl Step {
             Step::Run(step) => step.play(&mut world.setting),
             Step::Answers(step) => step.play(&mut world.setting),
             Step::Texts(step) => step.play(&mut world.setting),
+            Step::Layouts(step) => step.play(&mut world.setting),
             Step::Cover(step) => step.play(alloc, &mut world.cover),
             Step::Sparse(step) => step.play(&mut world.setting),
             Step::Tables(step) => step.play(&mut world.setting),
@@ -99,6 +103,9 @@ fn read_run(alloc: Global, verb: &str, words: &mut Arguments) -> Result<Option<S
     }
     if let Some(step) = TextStep::read(alloc, verb, words)? {
         return Ok(Some(Step::Texts(step)));
+    }
+    if let Some(step) = LayoutStep::read(verb, words)? {
+        return Ok(Some(Step::Layouts(step)));
     }
     Ok(None)
 }

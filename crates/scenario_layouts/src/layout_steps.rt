@@ -1,0 +1,76 @@
+//! Steps on layouts.
+use crate::planning::{Plan, plan_of};
+use crate::shown_layout::ShownLayout;
+use crate::shown_refusal::ShownPlaceFault;
+use anyhow::Result;
+use scenario_words::{Arguments, Setting};
+
+/// A step on the layout of an image.
+#[derive(Debug, Drop)]
+pub enum LayoutStep {
+    /// The layout of an image of a configuration.
+    Layout { conf: String, image: String },
+    /// The offsets that the layout covers.
+    Covered { conf: String, image: String },
+}
+
+impl LayoutStep {
+    /// The step of a verb, where it is one of these.
+    pub fn read(verb: &str, words: &mut Arguments) -> Result<Option<LayoutStep>> {
+        let step = match verb {
+            "layout" => LayoutStep::Layout {
+                conf: words.text("a file")?,
+                image: words.text("an image")?,
+            },
+            "covered" => LayoutStep::Covered {
+                conf: words.text("a file")?,
+                image: words.text("an image")?,
+            },
+            _ => return Ok(None),
+        };
+        Ok(Some(step))
+    }
+
+    /// Does it, and says what came of it.
+    pub fn play(self, setting: &mut Setting) -> Result<String> {
+        match self {
+            LayoutStep::Layout { conf, image } => show_layout(setting, &conf, &image),
+            LayoutStep::Covered { conf, image } => show_covered(setting, &conf, &image),
+        }
+    }
+}
+
+fn show_layout(setting: &mut Setting, conf: &str, image: &str) -> Result<String> {
+    let alloc = setting.alloc;
+    match &plan_of(setting, conf, image)? {
+        Plan::Placed(layout) => {
+            let shown = ShownLayout(layout);
+            Ok(format!(in alloc; "layout {shown}")?)
+        }
+        Plan::Refused(fault) => {
+            let shown = ShownPlaceFault(fault);
+            Ok(format!(in alloc; "no layout: {shown}")?)
+        }
+    }
+}
+
+/// Each span of the cover as its place and its length.
+fn show_covered(setting: &mut Setting, conf: &str, image: &str) -> Result<String> {
+    let alloc = setting.alloc;
+    match &plan_of(setting, conf, image)? {
+        Plan::Placed(layout) => {
+            let cover = layout.covered(alloc)?;
+            let mut line = String::from_str(alloc, "covered")?;
+            for span in cover.spans() {
+                let at = span.at;
+                let len = span.len;
+                write!(line, " {at}+{len}")?;
+            }
+            Ok(line)
+        }
+        Plan::Refused(fault) => {
+            let shown = ShownPlaceFault(fault);
+            Ok(format!(in alloc; "no layout: {shown}")?)
+        }
+    }
+}
