@@ -1,2 +1,3 @@
 -- lemmas
+pub mod Determined
 pub mod Joined

@@ -1,2 +1,3 @@
 -- definitions that contracts cite
 pub mod Layouts
+pub mod Placed

@@ -42,7 +42,7 @@ high_spot frame before align m whole above =
     let split = of_larger frame.front (greatest (map end_of before)) m above in
     record { multiple = whole; front = split.0; behind = ends_all before m split.1 }
 
-spot_is : (frame : Frame) (before : List Stood) (align m : ℕ) → 1 ≤ align → IsLeastSpot frame before align m → m ≡ least_multiple align (highest frame before)
+pub spot_is : (frame : Frame) (before : List Stood) (align m : ℕ) → 1 ≤ align → IsLeastSpot frame before align m → m ≡ least_multiple align (highest frame before)
 spot_is frame before align m some is =
     let least : IsLeastMultiple (highest frame before) align m = record {
       multiple = is.spot.multiple;
@@ -51,7 +51,7 @@ spot_is frame before align m some is =
     } in
     least_one (highest frame before) align m (least_multiple align (highest frame before)) least (least_of (highest frame before) align some)
 
-spot_of : (frame : Frame) (before : List Stood) (align : ℕ) → 1 ≤ align → IsLeastSpot frame before align (least_multiple align (highest frame before))
+pub spot_of : (frame : Frame) (before : List Stood) (align : ℕ) → 1 ≤ align → IsLeastSpot frame before align (least_multiple align (highest frame before))
 spot_of frame before align some =
     let least = least_of (highest frame before) align some in
     record {
