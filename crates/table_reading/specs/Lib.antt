@@ -1,0 +1,5 @@
+-- definitions that contracts cite
+pub use Rattle.base_fields.specs.Fields
+pub use Rattle.mbr_table.specs.Mbr
+pub use Rattle.mbr_table.specs.Reading
+pub mod Recognised
