@@ -7,3 +7,6 @@ use Rattle.base_fields.proofs.Images.{number_of_list}
 
 pub number_here : (xs : List ℕ) (o : ℕ) → little_number 4 (drop o xs) ≡ number_at (λ k. slice_index xs k) o 4
 number_here xs o = sym (number_of_list xs o 4)
+
+pub long_number_here : (xs : List ℕ) (o : ℕ) → little_number 8 (drop o xs) ≡ number_at (λ k. slice_index xs k) o 8
+long_number_here xs o = sym (number_of_list xs o 8)

@@ -18,7 +18,7 @@ const EXTENDED: [u8; 2] = [0x05, 0x0F];
 
 /// The number in the four bytes at `at`.
 #[tactic(auto, using(crate::proofs::Numbers::number_here))]
-fn read_number(bytes: &[u8], at: usize) -> u32
+pub fn read_number(bytes: &[u8], at: usize) -> u32
     requires { at + 4 ≤ length bytes.now }
     ensures { result ≡ number_at (image_of bytes.now) at 4 }
 {
