@@ -5,3 +5,4 @@ pub use Rattle.mbr_table.specs.Mbr
 pub use Rattle.mbr_table.specs.Reading
 pub mod Recognised
 pub mod Header
+pub mod Record

@@ -2,7 +2,7 @@ ghost use Rattle.std.specs.Prelude.{◌≡◌, ◌+◌, ◌≤◌, length};
 ghost use Rattle.base_fields.specs.Fields.{number_at};
 ghost use Rattle.mbr_table.specs.Mbr.{entry_of};
 ghost use Rattle.mbr_table.specs.Reading.{slot_at};
-ghost use Rattle.table_reading.specs.Recognised.{extended_slot as slot_of, image_of, is_extended as has_chain, kind_of as table_of, record_of};
+ghost use Rattle.table_reading.specs.Recognised.{extended_slot as slot_of, image_of, is_extended as has_chain, is_marked as has_mark, kind_of as table_of, record_of};
 
 use base_fields::{TableKind, get_u32};
 use mbr_table::{MARK, MbrEntry, MbrSpec};
@@ -38,11 +38,18 @@ pub fn read_entry(bytes: &[u8], at: usize) -> MbrEntry
     }
 }
 
+/// Whether the sector ends in 55 AA.
+pub fn is_marked(sector: &[u8; 512]) -> bool
+    ensures { result ≡ has_mark sector.now }
+{
+    sector[510] == MARK[0] && sector[511] == MARK[1]
+}
+
 /// What the first sector of an image says, where it is a master boot record (UEFI 2.10, section 5.2.1).
 pub fn read_mbr(sector: &[u8; 512]) -> Option<MbrSpec>
     ensures { result ≡ record_of sector.now }
 {
-    if sector[510] != MARK[0] || sector[511] != MARK[1] {
+    if !is_marked(sector) {
         return None;
     }
     Some(MbrSpec {
