@@ -6,3 +6,4 @@ pub use Rattle.mbr_table.specs.Reading
 pub mod Recognised
 pub mod Header
 pub mod Record
+pub mod Sector

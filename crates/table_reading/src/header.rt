@@ -7,7 +7,7 @@ use crate::first_sector::read_number;
 use base_fields::{crc32, get_u64};
 
 /// `EFI PART`, the lowest byte first.
-const SIGNATURE: u64 = 0x5452_4150_2049_4645;
+pub const SIGNATURE: u64 = 0x5452_4150_2049_4645;
 
 /// Version 1.0 of the header.
 const REVISION: u32 = 0x0001_0000;
@@ -31,7 +31,7 @@ pub enum HeaderFault {
 
 /// The number in the eight bytes at `at`.
 #[tactic(auto, using(crate::proofs::Numbers::long_number_here))]
-fn read_long(bytes: &[u8], at: usize) -> u64
+pub fn read_long(bytes: &[u8], at: usize) -> u64
     requires { at + 8 ≤ length bytes.now }
     ensures { result ≡ number_at (image_of bytes.now) at 8 }
 {

@@ -5,7 +5,9 @@
 mod first_sector;
 mod header;
 mod record;
+mod sector;
 
 pub use first_sector::{extended_slot, kind_of, read_entry, read_mbr};
 pub use header::{HeaderFault, check_header};
 pub use record::{BootRecord, read_record};
+pub use sector::sector_size;
