@@ -1,9 +1,9 @@
 -- The chunks of an image, one after another.
-use Rattle.std.proofs.Common.{◌≡◌, ℕ, ◌+◌, ◌*◌, ◌^◌, ◌<◌, ◌≤◌, List, [], ◌∷◌, ◌++◌, length, drop, flat_map, cond, Bool, false, Ok, refl, ap, subst, sym, ◌∙◌, arith}
+use Rattle.std.proofs.Common.{◌≡◌, ℕ, ◌+◌, ◌*◌, ◌^◌, ◌<◌, ◌≤◌, List, [], ◌∷◌, length, drop, flat_map, cond, false, Ok, refl, ap, subst, sym, ◌∙◌, arith}
 use Rattle.std.proofs.lemmas.List.{length-append}
 use Rattle.std.proofs.lemmas.List.Concat.{flat_map-cons}
 use Rattle.std.proofs.lemmas.List.Sums.{sum_by-cons}
-use Rattle.std.specs.List.{AllByRecursion, count_by, sum_by}
+use Rattle.std.specs.List.{AllByRecursion, sum_by}
 use Rattle.base_fields.specs.declared.spans.Span.{Span}
 use Rattle.sparse_reader.specs.Chunks.{AreChunks, chunk_at}
 use Rattle.sparse_reader.specs.Tally.{blocks_of, count_of, is_kind, one_if}
@@ -17,7 +17,7 @@ use Rattle.sparse_text.specs.declared.runs.Content.{Content}
 use Rattle.sparse_text.specs.declared.runs.Content.TheVariants.{Skip, Fill, Raw}
 use Rattle.sparse_text.specs.declared.runs.Run.{Run}
 use Rattle.sparse_laws.specs.Read.{chunk_of, chunks_of, data_size, runs_of}
-use Rattle.sparse_laws.proofs.Fits.{AreBytes, few_runs, run_fits}
+use Rattle.sparse_laws.proofs.Fits.{few_runs, run_fits}
 use Rattle.sparse_laws.proofs.OneChunk.{FitsFields, chunk_read, cursor_at}
 use Rattle.sparse_laws.proofs.Pieces.{Stands, long_enough, rest_there}
 
@@ -31,21 +31,24 @@ pub record TextsStand (image bytes : List ℕ) (block at : ℕ) (runs : List Run
   pub within : at ≤ length bytes
   pub there : drop at bytes ≡ texts image block runs
 
-chunk_long : (image : List ℕ) (block : ℕ) (r : Run) → FitsFields image block r → length (chunk_text image block r) ≡ 12 + data_size block r
+chunk_long : (image : List ℕ) (block : ℕ) (r : Run) → FitsFields image block r →
+    length (chunk_text image block r) ≡ 12 + data_size block r
 chunk_long image block r fits =
     let stored = fits.stored in
     let both = length-append (tag_text block r.content r.count) (data_of image block r.first r.count r.content) in
     let tag : length (tag_text block r.content r.count) ≡ 12 = refl in
     omega (arith, both, tag, stored)
 
-pub first_stands : (image bytes : List ℕ) (block at : ℕ) (r : Run) (rest : List Run) → TextsStand image bytes block at (r ∷ rest) →
+pub first_stands : (image bytes : List ℕ) (block at : ℕ) (r : Run) (rest : List Run) →
+    TextsStand image bytes block at (r ∷ rest) →
     Stands bytes at (chunk_text image block r) (texts image block rest)
 first_stands image bytes block at r rest h = record {
   within = h.within;
   there = h.there ∙ flat_map-cons (λ (x : Run). chunk_text image block x) r rest;
 }
 
-pub rest_stand : (image bytes : List ℕ) (block at : ℕ) (r : Run) (rest : List Run) → FitsFields image block r → TextsStand image bytes block at (r ∷ rest) →
+pub rest_stand : (image bytes : List ℕ) (block at : ℕ) (r : Run) (rest : List Run) → FitsFields image block r →
+    TextsStand image bytes block at (r ∷ rest) →
     TextsStand image bytes block (at + (12 + data_size block r)) rest
 rest_stand image bytes block at r rest fits h =
     let first = first_stands image bytes block at r rest h in
@@ -57,8 +60,10 @@ rest_stand image bytes block at r rest fits h =
 
 -- ---- they are read
 
-pub chunks_stand : (image bytes : List ℕ) (has : ℕ → Content → Type 0) (most block number at first end : ℕ) (runs : List Run) →
-    AreRuns has most first end runs → AllByRecursion (FitsFields image block) runs → TextsStand image bytes block at runs →
+pub chunks_stand : (image bytes : List ℕ) (has : ℕ → Content →
+    Type 0) (most block number at first end : ℕ) (runs : List Run) →
+    AreRuns has most first end runs → AllByRecursion (FitsFields image block) runs →
+    TextsStand image bytes block at runs →
     AreChunks bytes block (cursor_at number at first) (chunks_of block at runs)
 chunks_stand image bytes has most block number at first end [] h fits there = tt
 chunks_stand image bytes has most block number at first end (r ∷ rest) h fits there =
@@ -70,14 +75,15 @@ chunks_stand image bytes has most block number at first end (r ∷ rest) h fits 
       subst (λ (o : ℕ). AreChunks bytes block (cursor_at (number + 1) o (first + r.count)) (chunks_of block (at + (12 + data_size block r)) rest)) (sym place) more,
     )
 
-pub all_fit : (image : List ℕ) (cover : List Span) (block first end : ℕ) (runs : List Run) → AreBytes image → 4096 ≤ block →
-    end * block ≤ length image + block → end < 256 ^ 4 → AreRuns (IsContent image cover block) (most_raw block) first end runs →
+pub all_fit : (image : List ℕ) (cover : List Span) (block first end : ℕ) (runs : List Run) →
+    end * block ≤ length image + block → end < 256 ^ 4 →
+    AreRuns (IsContent image cover block) (most_raw block) first end runs →
     AllByRecursion (FitsFields image block) runs
-all_fit image cover block first end [] are above within few h = tt
-all_fit image cover block first end (r ∷ rest) are above within few h =
+all_fit image cover block first end [] within few h = tt
+all_fit image cover block first end (r ∷ rest) within few h =
     let after = few_runs (IsContent image cover block) (most_raw block) (first + r.count) end rest h.2 in (
-      run_fits image cover block first end r are above within few (omega (arith, after)) h.0,
-      all_fit image cover block (first + r.count) end rest are above within few h.2,
+      run_fits image cover block first end r within few (omega (arith, after)) h.0,
+      all_fit image cover block (first + r.count) end rest within few h.2,
     )
 
 -- ---- their counts
@@ -97,7 +103,8 @@ chunks_blocks block at (r ∷ rest) =
     let runs = sum_by-cons (λ (x : Run). x.count) r rest in
     omega (arith, more, chunks, runs)
 
-pub chunks_of_kind : (kind : ChunkKind) (block at : ℕ) (runs : List Run) → count_of kind (chunks_of block at runs) ≡ runs_of kind runs
+pub chunks_of_kind : (kind : ChunkKind) (block at : ℕ) (runs : List Run) →
+    count_of kind (chunks_of block at runs) ≡ runs_of kind runs
 chunks_of_kind kind block at [] = refl
 chunks_of_kind kind block at (r ∷ rest) =
     let behind_it = at + (12 + data_size block r) in

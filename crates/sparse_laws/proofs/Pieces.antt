@@ -1,5 +1,5 @@
 -- Parts of a file that stand one behind another.
-use Rattle.std.proofs.Common.{◌≡◌, ℕ, ◌+◌, ◌-◌, ◌≤◌, List, ◌++◌, length, take, drop, nat_le, true, Result, Ok, refl, ap, sym, ◌∙◌, arith}
+use Rattle.std.proofs.Common.{◌≡◌, ℕ, ◌+◌, ◌≤◌, List, ◌++◌, length, take, drop, nat_le, true, Ok, refl, ap, sym, ◌∙◌, arith}
 use Rattle.std.proofs.Math.Seq.{drop-append_seam, take-append_seam}
 use Rattle.std.proofs.lemmas.Bool.Decides.{nat_tests}
 use Rattle.std.proofs.lemmas.List.{drop-drop, length-append, length-drop}
@@ -14,7 +14,8 @@ not_above : (a b : ℕ) → a ≤ b → nat_le a b ≡ true
 not_above a b h = grind (arith, nat_tests)
 
 -- the file is as long
-pub long_enough : (bytes part rest : List ℕ) (at n : ℕ) → Stands bytes at part rest → length part ≡ n → at + n ≤ length bytes
+pub long_enough : (bytes part rest : List ℕ) (at n : ℕ) → Stands bytes at part rest → length part ≡ n →
+    at + n ≤ length bytes
 long_enough bytes part rest at n h long =
     let within = h.within in
     let left = length-drop at bytes in
@@ -23,7 +24,8 @@ long_enough bytes part rest at n h long =
     omega (arith, within, left, both, same, long)
 
 -- it is read
-pub part_read : (bytes part rest : List ℕ) (at n : ℕ) → Stands bytes at part rest → length part ≡ n → part_of bytes at n ≡ Ok part
+pub part_read : (bytes part rest : List ℕ) (at n : ℕ) → Stands bytes at part rest → length part ≡ n →
+    part_of bytes at n ≡ Ok part
 part_read bytes part rest at n h long =
     let passes = not_above (at + n) (length bytes) (long_enough bytes part rest at n h long) in
     let is : take n (drop at bytes) ≡ part =
@@ -31,6 +33,7 @@ part_read bytes part rest at n h long =
     rw (passes, is) refl
 
 -- the rest stands behind it
-pub rest_there : (bytes part rest : List ℕ) (at n : ℕ) → Stands bytes at part rest → length part ≡ n → drop (at + n) bytes ≡ rest
+pub rest_there : (bytes part rest : List ℕ) (at n : ℕ) → Stands bytes at part rest → length part ≡ n →
+    drop (at + n) bytes ≡ rest
 rest_there bytes part rest at n h long =
     sym (drop-drop n at bytes) ∙ ap (λ (xs : List ℕ). drop n xs) h.there ∙ ap (λ (m : ℕ). drop m (part ++ rest)) (sym long) ∙ drop-append_seam part rest

@@ -1,5 +1,5 @@
 -- The sparse file of an image is read as its chunks.
-use Rattle.std.proofs.Common.{◌≡◌, ℕ, ◌+◌, ◌^◌, ◌<◌, ◌≤◌, List, [], ◌∷◌, ◌++◌, length, true, Option, None, Ok, refl, ap, subst, sym, ◌∙◌, arith}
+use Rattle.std.proofs.Common.{◌≡◌, ℕ, ◌^◌, ◌<◌, ◌≤◌, List, [], ◌∷◌, length, true, Option, None, Ok, refl, ap, subst, sym, ◌∙◌, arith}
 use Rattle.std.specs.Int.{div_ceil}
 use Rattle.byteorder.specs.Numbers.{little_number-reads_back}
 use Rattle.base_fields.specs.Fields.{joined, number}
@@ -14,12 +14,12 @@ use Rattle.sparse_reader.specs.declared.header.Header.{Header}
 use Rattle.sparse_reader.specs.declared.view.SparseView.{SparseView}
 use Rattle.sparse_text.proofs.RunLemmas.{all_counted}
 use Rattle.sparse_text.specs.Blocks.{IsContent}
-use Rattle.sparse_text.specs.Text.{AreRunsOf, IsSparseText, header_text, most_raw, text_of}
+use Rattle.sparse_text.specs.Text.{AreRunsOf, header_text, most_raw, text_of}
 use Rattle.sparse_text.specs.declared.runs.Run.{Run}
 use Rattle.sparse_laws.specs.Laws.{IsReadAs, SparseTextIsRead}
 use Rattle.sparse_laws.specs.Read.{chunks_of, header_for, view_for}
 use Rattle.sparse_laws.proofs.Chunks.{TextsStand, all_fit, chunks_blocks, chunks_long, chunks_of_kind, chunks_stand, no_crc_chunks, texts}
-use Rattle.sparse_laws.proofs.Fits.{AreBytes, few_blocks, few_runs, within_padded}
+use Rattle.sparse_laws.proofs.Fits.{few_blocks, few_runs, within_padded}
 use Rattle.sparse_laws.proofs.Pieces.{Stands, long_enough, part_read, rest_there}
 use Rattle.sparse_laws.proofs.Powers.{is_a_block}
 use Rattle.sparse_laws.proofs.Stored.{all_covered, all_stored}
@@ -30,8 +30,10 @@ abbrev header_with : ℕ → ℕ → ℕ → Header
 header_with block blocks chunks = record { block = block; blocks = blocks; chunks = chunks }
 
 -- bytes with the fixed numbers and these three are that header
-header_with_numbers : (block blocks chunks : ℕ) (head : List ℕ) → number_in head 0 4 ≡ 0xED26FF3A → number_in head 4 2 ≡ 1 → number_in head 6 2 ≡ 0 →
-    number_in head 8 2 ≡ 28 → number_in head 10 2 ≡ 12 → number_in head 12 4 ≡ block → number_in head 16 4 ≡ blocks → number_in head 20 4 ≡ chunks →
+header_with_numbers : (block blocks chunks : ℕ) (head : List ℕ) → number_in head 0 4 ≡ 0xED26FF3A →
+    number_in head 4 2 ≡ 1 → number_in head 6 2 ≡ 0 →
+    number_in head 8 2 ≡ 28 → number_in head 10 2 ≡ 12 → number_in head 12 4 ≡ block → number_in head 16 4 ≡ blocks →
+    number_in head 20 4 ≡ chunks →
     is_block block ≡ true → header_in head ≡ Ok (header_with block blocks chunks)
 header_with_numbers block blocks chunks head magic major minor own tags size all count is =
     let good : first_bad fixed_fields head ≡ None = rw (magic, major, minor, own, tags, size, is) refl in
@@ -41,7 +43,8 @@ header_with_numbers block blocks chunks head magic major minor own tags size all
     ∙ ap (λ (n : ℕ). header_with block blocks n) count in
     ap (λ (bad : Option ℕ). or_bad bad head) good ∙ ap Ok said
 
-header_read : (block blocks chunks : ℕ) → block < 256 ^ 4 → blocks < 256 ^ 4 → chunks < 256 ^ 4 → is_block block ≡ true →
+header_read : (block blocks chunks : ℕ) → block < 256 ^ 4 → blocks < 256 ^ 4 → chunks < 256 ^ 4 →
+    is_block block ≡ true →
     header_in (header_text block blocks chunks) ≡ Ok (header_with block blocks chunks)
 header_read block blocks chunks small few short is =
     let behind_chunks : List ℕ = joined (number 24 4 0 ∷ []) in
@@ -54,7 +57,8 @@ header_stands : (image : List ℕ) (block blocks : ℕ) (runs : List Run) →
     Stands (text_of image block blocks runs) 0 (header_text block blocks (length runs)) (texts image block runs)
 header_stands image block blocks runs = record { within = omega arith; there = refl }
 
-header_there : (image : List ℕ) (block blocks : ℕ) (runs : List Run) → block < 256 ^ 4 → blocks < 256 ^ 4 → length runs < 256 ^ 4 → is_block block ≡ true →
+header_there : (image : List ℕ) (block blocks : ℕ) (runs : List Run) → block < 256 ^ 4 → blocks < 256 ^ 4 →
+    length runs < 256 ^ 4 → is_block block ≡ true →
     header_of (text_of image block blocks runs) ≡ Ok (header_with block blocks (length runs))
 header_there image block blocks runs small few short is =
     let text = text_of image block blocks runs in
@@ -64,7 +68,8 @@ header_there image block blocks runs small few short is =
     rw (there, read) refl
 
 -- behind it stand the chunks
-chunks_there : (image : List ℕ) (block blocks : ℕ) (runs : List Run) → TextsStand image (text_of image block blocks runs) block 28 runs
+chunks_there : (image : List ℕ) (block blocks : ℕ) (runs : List Run) →
+    TextsStand image (text_of image block blocks runs) block 28 runs
 chunks_there image block blocks runs =
     let text = text_of image block blocks runs in
     let head = header_text block blocks (length runs) in
@@ -78,7 +83,8 @@ chunks_there image block blocks runs =
 abbrev view_with : ℕ → ℕ → ℕ → ℕ → ℕ → ℕ → ℕ → SparseView
 view_with block blocks chunks raw fill skip crc = record { block = block; blocks = blocks; chunks = chunks; raw = raw; fill = fill; skip = skip; crc = crc }
 
-view_is : (image : List ℕ) (block at : ℕ) (runs : List Run) → view_of (header_for image block runs) (tally_of (chunks_of block at runs)) ≡ view_for image block runs
+view_is : (image : List ℕ) (block at : ℕ) (runs : List Run) →
+    view_of (header_for image block runs) (tally_of (chunks_of block at runs)) ≡ view_for image block runs
 view_is image block at runs =
     let raw = chunks_of_kind kind.Raw block at runs in
     let fill = chunks_of_kind kind.Fill block at runs in
@@ -88,9 +94,11 @@ view_is image block at runs =
 
 -- ---- the law
 
-read_of_runs : (image : List ℕ) (cover : List Span) (block : ℕ) (runs : List Run) → IsPowerBetween 4096 1048576 block → length image ≤ 2 ^ 43 → AreBytes image →
-    AreRunsOf image cover block (div_ceil (length image) block) runs → IsReadAs image cover block (text_of image block (div_ceil (length image) block) runs) runs
-read_of_runs image cover block runs sized bounded are h =
+read_of_runs : (image : List ℕ) (cover : List Span) (block : ℕ) (runs : List Run) →
+    IsPowerBetween 4096 1048576 block → length image ≤ 2 ^ 43 →
+    AreRunsOf image cover block (div_ceil (length image) block) runs →
+    IsReadAs image cover block (text_of image block (div_ceil (length image) block) runs) runs
+read_of_runs image cover block runs sized bounded h =
     let has = IsContent image cover block in
     let most = most_raw block in
     let end = div_ceil (length image) block in
@@ -99,7 +107,7 @@ read_of_runs image cover block runs sized bounded are h =
     let below : block ≤ 1048576 = sized.not_above in
     let few = few_blocks (length image) block above below bounded in
     let short = few_runs has most 0 end runs h in
-    let fits = all_fit image cover block 0 end runs are above (within_padded (length image) block above) few h in
+    let fits = all_fit image cover block 0 end runs (within_padded (length image) block above) few h in
     let stand = chunks_there image block end runs in
     let counted = all_counted has most 0 end runs h in
     let blocks = chunks_blocks block 28 runs in
@@ -121,5 +129,5 @@ read_of_runs image cover block runs sized bounded are h =
     }
 
 pub sparse_text_is_read : SparseTextIsRead
-sparse_text_is_read image cover block text sized bounded are (runs, h, is) =
-    (runs, subst (λ (xs : List ℕ). IsReadAs image cover block xs runs) (sym is) (read_of_runs image cover block runs sized bounded are h))
+sparse_text_is_read image cover block text sized bounded (runs, h, is) =
+    (runs, subst (λ (xs : List ℕ). IsReadAs image cover block xs runs) (sym is) (read_of_runs image cover block runs sized bounded h))

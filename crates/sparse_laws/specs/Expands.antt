@@ -1,5 +1,5 @@
 -- A list of chunks of a file expands to an image and its cover.
-use Rattle.std.specs.Prelude.{◌≡◌, ℕ, ◌+◌, ◌*◌, ◌<◌, ◌≤◌, List, length, take, drop}
+use Rattle.std.specs.Prelude.{◌≡◌, ℕ, ◌+◌, ◌*◌, ◌<◌, ◌≤◌, List, length, take, drop, slice_index}
 use Rattle.std.specs.Int.{div_ceil}
 use Rattle.std.specs.List.{AllByRecursion, Any}
 use Rattle.base_fields.specs.declared.spans.Span.{Span}
@@ -10,11 +10,15 @@ use Rattle.sparse_reader.specs.declared.chunk.ChunkKind.{ChunkKind}
 use Rattle.sparse_reader.specs.declared.chunk.ChunkKind.TheVariants.{Raw, Fill, Skip, Crc}
 use Rattle.sparse_text.specs.Blocks.{AreWords, block_at, block_span}
 
+-- a list of bytes
+abbrev pub AreBytes : List ℕ → Type 0
+AreBytes bytes = (k : ℕ) → slice_index bytes k < 256
+
 -- a block of an image is what a chunk of a kind has for it: the bytes that stand for it, or words that are all the
 -- chunk's. A don't-care block says nothing, and no other chunk has blocks
 abbrev pub IsStoredBy : ChunkKind → List ℕ → ℕ → List ℕ → Type 0
 IsStoredBy Raw stored word bytes = stored ≡ bytes
-IsStoredBy Fill stored word bytes = AreWords bytes word
+IsStoredBy Fill stored word bytes = AreBytes bytes → AreWords bytes word
 IsStoredBy Skip stored word bytes = Unit {0}
 IsStoredBy Crc stored word bytes = ⊥
 

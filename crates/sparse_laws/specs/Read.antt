@@ -1,5 +1,5 @@
 -- What is read of the sparse file of an image: the chunk of each run of blocks.
-use Rattle.std.specs.Prelude.{ℕ, ◌+◌, List, [], ◌∷◌, length, count_by}
+use Rattle.std.specs.Prelude.{ℕ, ◌+◌, ◌%◌, ◌^◌, List, [], ◌∷◌, length, count_by}
 use Rattle.std.specs.Int.{div_ceil}
 use Rattle.sparse_reader.specs.Chunks.{data_len}
 use Rattle.sparse_reader.specs.Tally.{is_kind}
@@ -13,10 +13,10 @@ use Rattle.sparse_text.specs.declared.runs.Content.{Content}
 use Rattle.sparse_text.specs.declared.runs.Content.TheVariants.{Skip, Fill, Raw}
 use Rattle.sparse_text.specs.declared.runs.Run.{Run}
 
--- the word of a chunk of blocks of a content
+-- the word of a chunk of blocks of a content, as its 4 bytes hold it; a word of bytes is below 2^32
 abbrev pub word_of : Content → ℕ
 word_of Skip = 0
-word_of (Fill word) = word
+word_of (Fill word) = word % 2 ^ 32
 word_of Raw = 0
 
 -- how many bytes of data the chunk of a run has
