@@ -54,8 +54,10 @@ rest_stand image bytes block at r rest fits h =
     let first = first_stands image bytes block at r rest h in
     let long = chunk_long image block r fits in
     record {
-      within = long_enough bytes (chunk_text image block r) (texts image block rest) at (12 + data_size block r) first long;
-      there = rest_there bytes (chunk_text image block r) (texts image block rest) at (12 + data_size block r) first long;
+      within = long_enough bytes (chunk_text image block r) (texts image block rest) at (12 + data_size block r)
+          first long;
+      there = rest_there bytes (chunk_text image block r) (texts image block rest) at (12 + data_size block r)
+          first long;
     }
 
 -- ---- they are read
@@ -67,9 +69,12 @@ pub chunks_stand : (image bytes : List ℕ) (has : ℕ → Content →
     AreChunks bytes block (cursor_at number at first) (chunks_of block at runs)
 chunks_stand image bytes has most block number at first end [] h fits there = tt
 chunks_stand image bytes has most block number at first end (r ∷ rest) h fits there =
-    let here = chunk_read image bytes (texts image block rest) block number at r fits.0 (first_stands image bytes block at r rest there) in
+    let here =
+    chunk_read image bytes (texts image block rest) block number at r fits.0
+    (first_stands image bytes block at r rest there) in
     let more =
-    chunks_stand image bytes has most block (number + 1) (at + (12 + data_size block r)) (first + r.count) end rest h.2 fits.1 (rest_stand image bytes block at r rest fits.0 there) in
+    chunks_stand image bytes has most block (number + 1) (at + (12 + data_size block r)) (first + r.count) end rest
+    h.2 fits.1 (rest_stand image bytes block at r rest fits.0 there) in
     let place : at + 12 + data_size block r ≡ at + (12 + data_size block r) = omega arith in (
       subst (λ (b : ℕ). chunk_at bytes block (cursor_at number at b) ≡ Ok (chunk_of at r)) h.0.begins here,
       subst (λ (o : ℕ). AreChunks bytes block (cursor_at (number + 1) o (first + r.count)) (chunks_of block (at + (12 + data_size block r)) rest)) (sym place) more,
@@ -109,7 +114,8 @@ chunks_of_kind kind block at [] = refl
 chunks_of_kind kind block at (r ∷ rest) =
     let behind_it = at + (12 + data_size block r) in
     let more = chunks_of_kind kind block behind_it rest in
-    let chunks = sum_by-cons (λ (c : Chunk). cond (is_kind kind c.kind) 1 0) (chunk_of at r) (chunks_of block behind_it rest) in
+    let chunks =
+    sum_by-cons (λ (c : Chunk). cond (is_kind kind c.kind) 1 0) (chunk_of at r) (chunks_of block behind_it rest) in
     let runs = sum_by-cons (λ (x : Run). cond (is_kind kind (kind_in x.content)) 1 0) r rest in
     omega (arith, more, chunks, runs)
 

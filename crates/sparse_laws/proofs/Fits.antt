@@ -20,7 +20,8 @@ pub few_blocks : (size block : ℕ) → 4096 ≤ block → block ≤ 1048576 →
 few_blocks size block above below bounded =
     let whole = div_ceil_times size block (omega (arith, above)) in
     let within : div_ceil size block * block < size + block = whole.1 in
-    let least : div_ceil size block * 4096 ≤ div_ceil size block * block = mul-le-mul_left (div_ceil size block) above in
+    let least : div_ceil size block * 4096 ≤ div_ceil size block * block =
+    mul-le-mul_left (div_ceil size block) above in
     omega (arith, within, least, below, bounded)
 
 pub within_padded : (size block : ℕ) → 4096 ≤ block → div_ceil size block * block ≤ size + block
@@ -46,18 +47,21 @@ padded_long image block first count within =
     let padding = length-append image (replicate block 0) in
     let zeros_long = length-replicate {A = ℕ} block 0 in
     let left = length-drop (first * block) (padded image block) in
-    length-take-le (count * block) (drop (first * block) (padded image block)) (omega (arith, both, padding, zeros_long, left, within))
+    length-take-le (count * block) (drop (first * block) (padded image block))
+    (omega (arith, both, padding, zeros_long, left, within))
 
 -- ---- the fields of a chunk
 
 abbrev FitsOf : List ℕ → ℕ → ℕ → ℕ → Content → Type 0
-FitsOf image block first count content = FitsFields image block (record { first = first; count = count; content = content })
+FitsOf image block first count content =
+    FitsFields image block (record { first = first; count = count; content = content })
 
 fits_of : (image : List ℕ) (block first count : ℕ) (content : Content) →
     (first + count) * block ≤ length image + block → count < 256 ^ 4 →
     (content ≡ Raw → count ≤ most_raw block) → FitsOf image block first count content
 fits_of image block first count Skip within few short = record { count = few; total = omega arith; stored = refl }
-fits_of image block first count (Fill word) within few short = record { count = few; total = omega arith; stored = refl }
+fits_of image block first count (Fill word) within few short =
+    record { count = few; total = omega arith; stored = refl }
 fits_of image block first count Raw within few short =
     let most = short refl in
     let product : count * block ≤ 2 ^ 30 / block * block = mul-le-mul_right block most in

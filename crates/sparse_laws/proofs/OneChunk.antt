@@ -43,7 +43,8 @@ tag_with_numbers : (block count : ℕ) (content : Content) (head : List ℕ) →
     tag_in block head ≡ Some (tag_of content count)
 tag_with_numbers block count content head kind blocks total =
     let allowed = blocks_allowed content count in
-    let same : (12 + data_len (kind_in content) block count == 12 + data_len (kind_in content) block count) ≡ true = eq-eqb _ _ refl in
+    let same : (12 + data_len (kind_in content) block count == 12 + data_len (kind_in content) block count) ≡ true =
+    eq-eqb _ _ refl in
     rw (kind, blocks, total, allowed, same) refl
 
 pub tag_read : (block count : ℕ) (content : Content) → count < 256 ^ 4 →
@@ -55,9 +56,11 @@ tag_read block count content few short =
     let behind_kind : List ℕ = joined (number 2 2 0 ∷ number 4 4 count ∷ number 8 4 total ∷ []) in
     let kind : number_in (tag_text block content count) 0 2 ≡ kind_number content =
     little_number-reads_back 2 (kind_number content) behind_kind (number_small content) in
-    let blocks : number_in (tag_text block content count) 4 4 ≡ count = little_number-reads_back 4 count behind_count few in
+    let blocks : number_in (tag_text block content count) 4 4 ≡ count =
+    little_number-reads_back 4 count behind_count few in
     let sum : number_in (tag_text block content count) 8 4 ≡ total = little_number-reads_back 4 total [] short in
-    tag_with_numbers block count content (tag_text block content count) (ap kind_of kind ∙ number_known content) blocks sum
+    tag_with_numbers block count content (tag_text block content count) (ap kind_of kind ∙ number_known content)
+    blocks sum
 
 -- ---- the chunk
 
@@ -83,7 +86,8 @@ pub tag_there : (image bytes rest : List ℕ) (block at : ℕ) (r : Run) → Sta
     Stands bytes at (tag_text block r.content r.count) (data_of image block r.first r.count r.content ++ rest)
 tag_there image bytes rest block at r h = record {
   within = h.within;
-  there = h.there ∙ append_assoc (tag_text block r.content r.count) (data_of image block r.first r.count r.content) rest;
+  there = h.there ∙ append_assoc (tag_text block r.content r.count) (data_of image block r.first r.count r.content)
+      rest;
 }
 
 pub data_there : (image bytes rest : List ℕ) (block at : ℕ) (r : Run) →
@@ -93,7 +97,10 @@ data_there image bytes rest block at r h =
     let tag = tag_text block r.content r.count in
     let behind_it = data_of image block r.first r.count r.content ++ rest in
     let there = tag_there image bytes rest block at r h in
-    record { within = long_enough bytes tag behind_it at 12 there refl; there = rest_there bytes tag behind_it at 12 there refl }
+    record {
+      within = long_enough bytes tag behind_it at 12 there refl;
+      there = rest_there bytes tag behind_it at 12 there refl;
+    }
 
 -- the chunk at a cursor
 pub chunk_read : (image bytes rest : List ℕ) (block number at : ℕ) (r : Run) → FitsFields image block r →
@@ -104,6 +111,7 @@ chunk_read image bytes rest block number at r fits h =
     let stored = data_of image block r.first r.count r.content in
     let head = part_read bytes tag (stored ++ rest) at 12 (tag_there image bytes rest block at r h) refl in
     let says = tag_read block r.count r.content fits.count fits.total in
-    let behind_it = part_read bytes stored rest (at + 12) (data_size block r) (data_there image bytes rest block at r h) fits.stored in
+    let behind_it =
+    part_read bytes stored rest (at + 12) (data_size block r) (data_there image bytes rest block at r h) fits.stored in
     let word = word_read image block r.first r.count r.content in
     rw (head, says, behind_it, word) refl

@@ -29,11 +29,16 @@ pub part_read : (bytes part rest : List ℕ) (at n : ℕ) → Stands bytes at pa
 part_read bytes part rest at n h long =
     let passes = not_above (at + n) (length bytes) (long_enough bytes part rest at n h long) in
     let is : take n (drop at bytes) ≡ part =
-    ap (λ (xs : List ℕ). take n xs) h.there ∙ ap (λ (m : ℕ). take m (part ++ rest)) (sym long) ∙ take-append_seam part rest in
+    ap (λ (xs : List ℕ). take n xs) h.there
+    ∙ ap (λ (m : ℕ). take m (part ++ rest)) (sym long)
+    ∙ take-append_seam part rest in
     rw (passes, is) refl
 
 -- the rest stands behind it
 pub rest_there : (bytes part rest : List ℕ) (at n : ℕ) → Stands bytes at part rest → length part ≡ n →
     drop (at + n) bytes ≡ rest
 rest_there bytes part rest at n h long =
-    sym (drop-drop n at bytes) ∙ ap (λ (xs : List ℕ). drop n xs) h.there ∙ ap (λ (m : ℕ). drop m (part ++ rest)) (sym long) ∙ drop-append_seam part rest
+    sym (drop-drop n at bytes)
+    ∙ ap (λ (xs : List ℕ). drop n xs) h.there
+    ∙ ap (λ (m : ℕ). drop m (part ++ rest)) (sym long)
+    ∙ drop-append_seam part rest

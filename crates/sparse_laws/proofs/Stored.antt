@@ -65,7 +65,8 @@ word_small bytes word are long h =
 -- a block of the data, with whatever stands behind them
 block_of_data : (whole rest : List ℕ) (block first count i : ℕ) → i < count →
     length (take (count * block) (drop (first * block) whole)) ≡ count * block →
-    take block (drop (i * block) (take (count * block) (drop (first * block) whole) ++ rest)) ≡ take block (drop ((first + i) * block) whole)
+    take block (drop (i * block) (take (count * block) (drop (first * block) whole) ++ rest))
+    ≡ take block (drop ((first + i) * block) whole)
 block_of_data whole rest block first count i inside long =
     let from = drop (first * block) whole in
     let stored = take (count * block) from in
@@ -98,14 +99,17 @@ block_in_file image bytes rest block at first count i inside long h =
 
 stored_by : (image bytes rest : List ℕ) (cover : List Span) (block at first count i : ℕ) (content : Content) →
     i < count →
-    length (data_of image block first count content) ≡ data_size block (record { first = first; count = count; content = content }) →
+    length (data_of image block first count content) ≡ data_size block
+    (record { first = first; count = count; content = content }) →
     Stands bytes at (data_of image block first count content) rest → IsContent image cover block (first + i) content →
-    IsStoredBy (kind_in content) (take block (drop (at + i * block) bytes)) (word_of content) (block_at image block (first + i))
+    IsStoredBy (kind_in content) (take block (drop (at + i * block) bytes)) (word_of content)
+    (block_at image block (first + i))
 stored_by image bytes rest cover block at first count i Skip inside long h is = tt
 stored_by image bytes rest cover block at first count i (Fill word) inside long h is = λ are k within.
     let small = word_small (block_at image block (first + i)) word are (omega (arith, within)) is.1 in
     is.1 k within ∙ sym (mod-eq_of_lt small)
-stored_by image bytes rest cover block at first count i Raw inside long h is = block_in_file image bytes rest block at first count i inside long h
+stored_by image bytes rest cover block at first count i Raw inside long h is =
+    block_in_file image bytes rest block at first count i inside long h
 
 pub all_stored : (image bytes : List ℕ) (cover : List Span) (block at first end : ℕ) (runs : List Run) →
     AreRuns (IsContent image cover block) (most_raw block) first end runs →
@@ -113,12 +117,15 @@ pub all_stored : (image bytes : List ℕ) (cover : List Span) (block at first en
     AllByRecursion (HasBlocks bytes image block) (chunks_of block at runs)
 all_stored image bytes cover block at first end [] h fits there = tt
 all_stored image bytes cover block at first end (r ∷ rest) h fits there =
-    let data_stand = data_there image bytes (texts image block rest) block at r (first_stands image bytes block at r rest there) in
+    let data_stand =
+    data_there image bytes (texts image block rest) block at r (first_stands image bytes block at r rest there) in
     let begins = h.0.begins in (
       λ i inside.
-          stored_by image bytes (texts image block rest) cover block (at + 12) r.first r.count i r.content inside fits.0.stored data_stand
+          stored_by image bytes (texts image block rest) cover block (at + 12) r.first r.count i r.content inside
+          fits.0.stored data_stand
           (h.0.alike (r.first + i) (omega (arith, begins)) (omega (arith, begins, inside))),
-      all_stored image bytes cover block (at + (12 + data_size block r)) (first + r.count) end rest h.2 fits.1 (rest_stand image bytes block at r rest fits.0 there),
+      all_stored image bytes cover block (at + (12 + data_size block r)) (first + r.count) end rest h.2 fits.1
+          (rest_stand image bytes block at r rest fits.0 there),
     )
 
 -- ---- the blocks with a covered offset
@@ -132,18 +139,27 @@ is_data image cover block b Raw meets is = tt
 pub all_covered : (image : List ℕ) (cover : List Span) (block at first end : ℕ) (runs : List Run) (b : ℕ) →
     AreRuns (IsContent image cover block) (most_raw block) first end runs → first ≤ b → b < end →
     Meets cover (block_span block b) → Any (Stores b) (chunks_of block at runs)
-all_covered image cover block at first end [] b h not_before before meets = absurd (omega (arith, h, not_before, before))
-all_covered image cover block at first end (r ∷ rest) b h not_before before meets = elim (cases_lt b (first + r.count)) [
-  | inl inside ↦
-      let begins = h.0.begins in (
-        0,
-        chunk_of at r,
-        omega arith,
-        refl,
-        (omega (arith, begins, not_before), omega (arith, begins, inside), is_data image cover block b r.content meets (h.0.alike b not_before inside)),
-      )
-  | inr past ↦
-      let there = all_covered image cover block (at + (12 + data_size block r)) (first + r.count) end rest b h.2 past before meets in
-      let below = there.2 in
-      (suc there.0, there.1, omega (arith, below), there.3, there.4)
-]
+all_covered image cover block at first end [] b h not_before before meets =
+    absurd (omega (arith, h, not_before, before))
+all_covered image cover block at first end (r ∷ rest) b h not_before before meets =
+    elim (cases_lt b (first + r.count)) [
+      | inl inside ↦
+          let begins = h.0.begins in (
+            0,
+            chunk_of at r,
+            omega arith,
+            refl,
+            (
+              omega (arith, begins, not_before),
+              omega (arith, begins, inside),
+              is_data image cover block b r.content
+                  meets (h.0.alike b not_before inside),
+            ),
+          )
+      | inr past ↦
+          let there =
+          all_covered image cover block (at + (12 + data_size block r)) (first + r.count) end rest b h.2 past before
+          meets in
+          let below = there.2 in
+          (suc there.0, there.1, omega (arith, below), there.3, there.4)
+    ]

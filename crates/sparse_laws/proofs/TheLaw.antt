@@ -51,7 +51,9 @@ header_read block blocks chunks small few short is =
     let behind_blocks : List ℕ = joined (number 20 4 chunks ∷ number 24 4 0 ∷ []) in
     let behind_block : List ℕ = joined (number 16 4 blocks ∷ number 20 4 chunks ∷ number 24 4 0 ∷ []) in
     header_with_numbers block blocks chunks (header_text block blocks chunks) refl refl refl refl refl
-    (little_number-reads_back 4 block behind_block small) (little_number-reads_back 4 blocks behind_blocks few) (little_number-reads_back 4 chunks behind_chunks short) is
+    (little_number-reads_back 4 block behind_block small)
+    (little_number-reads_back 4 blocks behind_blocks few)
+    (little_number-reads_back 4 chunks behind_chunks short) is
 
 header_stands : (image : List ℕ) (block blocks : ℕ) (runs : List Run) →
     Stands (text_of image block blocks runs) 0 (header_text block blocks (length runs)) (texts image block runs)
@@ -79,9 +81,6 @@ chunks_there image block blocks runs =
     record { within = omega (arith, long); there = rest_there text head behind_it 0 28 first refl }
 
 -- ---- the view
-
-abbrev view_with : ℕ → ℕ → ℕ → ℕ → ℕ → ℕ → ℕ → SparseView
-view_with block blocks chunks raw fill skip crc = record { block = block; blocks = blocks; chunks = chunks; raw = raw; fill = fill; skip = skip; crc = crc }
 
 view_is : (image : List ℕ) (block at : ℕ) (runs : List Run) →
     view_of (header_for image block runs) (tally_of (chunks_of block at runs)) ≡ view_for image block runs
@@ -112,7 +111,8 @@ read_of_runs image cover block runs sized bounded h =
     let counted = all_counted has most 0 end runs h in
     let blocks = chunks_blocks block 28 runs in
     let sparse : IsSparse text (header_for image block runs) (chunks_of block 28 runs) = record {
-      begins = header_there image block end runs (omega (arith, below)) few (omega (arith, few, short)) (is_a_block block sized);
+      begins = header_there image block end runs (omega (arith, below)) few (omega (arith, few, short))
+          (is_a_block block sized);
       stand = chunks_stand image text has most block 0 28 0 end runs h fits stand;
       count = chunks_long block 28 runs;
       blocks = omega (arith, blocks, counted);
@@ -120,7 +120,8 @@ read_of_runs image cover block runs sized bounded h =
     record {
       are_runs = h;
       sparse = sparse;
-      view = (views_are_of_chunks text (view_for image block runs)).1 (header_for image block runs, chunks_of block 28 runs, sparse, sym (view_is image block 28 runs));
+      view = (views_are_of_chunks text (view_for image block runs)).1
+          (header_for image block runs, chunks_of block 28 runs, sparse, sym (view_is image block 28 runs));
       expands = record {
         blocks = omega (arith, blocks, counted);
         stored = all_stored image text cover block 28 0 end runs h fits stand;
@@ -130,4 +131,5 @@ read_of_runs image cover block runs sized bounded h =
 
 pub sparse_text_is_read : SparseTextIsRead
 sparse_text_is_read image cover block text sized bounded (runs, h, is) =
-    (runs, subst (λ (xs : List ℕ). IsReadAs image cover block xs runs) (sym is) (read_of_runs image cover block runs sized bounded h))
+    let read = read_of_runs image cover block runs sized bounded h in
+    (runs, subst (λ (xs : List ℕ). IsReadAs image cover block xs runs) (sym is) read)

@@ -25,7 +25,8 @@ IsStoredBy Crc stored word bytes = ⊥
 -- each block of a chunk of a file is the image's block of its number; a raw chunk's stand one behind another
 abbrev pub HasBlocks : List ℕ → List ℕ → ℕ → Chunk → Type 0
 HasBlocks text image block chunk = (i : ℕ) → i < chunk.count →
-    IsStoredBy chunk.kind (take block (drop (chunk.at + i * block) text)) chunk.word (block_at image block (chunk.first + i))
+    IsStoredBy chunk.kind (take block (drop (chunk.at + i * block) text)) chunk.word
+    (block_at image block (chunk.first + i))
 
 -- a chunk of this kind says what its blocks are
 abbrev pub IsData : ChunkKind → Type 0

@@ -25,7 +25,13 @@ data_size block r = data_len (kind_in r.content) block r.count
 
 -- the chunk of a run, where its header stands at an offset
 abbrev pub chunk_of : ℕ → Run → Chunk
-chunk_of at r = record { kind = kind_in r.content; first = r.first; count = r.count; at = at + 12; word = word_of r.content }
+chunk_of at r = record {
+  kind = kind_in r.content;
+  first = r.first;
+  count = r.count;
+  at = at + 12;
+  word = word_of r.content;
+}
 
 -- the chunks of runs, end to end from an offset on
 abbrev pub chunks_of : ℕ → ℕ → List Run → List Chunk
