@@ -1,0 +1,8 @@
+-- lemmas
+mod Chunks
+mod Fits
+mod OneChunk
+mod Pieces
+mod Powers
+mod Stored
+mod TheLaw

@@ -1,0 +1,4 @@
+-- definitions that contracts cite
+pub mod Expands
+pub mod Laws
+pub mod Read
