@@ -1,6 +1,7 @@
 -- Lengths one behind another, as far as the files are there.
 use Rattle.std.specs.Prelude.{◌≡◌, ℕ, ◌+◌, ◌<◌, ◌≤◌, Bool, true, false, not, if◌then◌else◌, MatchBool}
-use Rattle.std.specs.Prelude.{Option, Some, None, Ok, Err, IsSome, IsSomeAnd, List, [], ◌∷◌, ◌++◌, drop, length, map, slice_index_or, take}
+use Rattle.std.specs.Prelude.{Option, Some, None, Ok, Err, IsSome, IsSomeAnd}
+use Rattle.std.specs.Prelude.{List, [], ◌∷◌, ◌++◌, drop, length, map, slice_index_or, take}
 use Rattle.std.specs.List.{position_from}
 use Rattle.std.proofs.Common.{refl, ap, sym, subst, ◌∙◌, append_assoc, get_or}
 use Rattle.std.proofs.lemmas.Iterator.Adapters.{position_from-zero}

@@ -41,7 +41,8 @@ flash_parts P (part ∷ parts) (source ∷ sources) (len ∷ lens) (s ∷ ss) al
 
 -- ---- the image's own file
 
-file_on : (flash : Option FlashSection) (spec : ImageSpec) (lens : List ℕ) → (layout_on flash spec lens).file ≡ spec.full
+file_on : (flash : Option FlashSection) (spec : ImageSpec) (lens : List ℕ)
+    → (layout_on flash spec lens).file ≡ spec.full
 file_on None spec lens = refl
 file_on (Some flash) spec lens = refl
 
@@ -55,7 +56,8 @@ apart_on (Some flash) spec lens all =
     flash_parts (λ f. f ≢ Some spec.full) spec.keys.parts spec.sources lens
     (places (geometry_of flash) spec.keys.parts lens) all
 
-pub own_file : (spec : ImageSpec) (lens : List ℕ) (layout : Layout) → layout ≡ layout_by spec lens → HasOwnFile spec layout
+pub own_file : (spec : ImageSpec) (lens : List ℕ) (layout : Layout)
+    → layout ≡ layout_by spec lens → HasOwnFile spec layout
 own_file spec lens layout is = record {
   file = ap (λ (l : Layout). l.file) is ∙ file_on spec.flash spec lens;
   apart = λ all. subst (λ (l : Layout). All (λ p. p.source ≢ Some l.file) l.parts) (sym is)
