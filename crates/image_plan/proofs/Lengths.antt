@@ -1,6 +1,7 @@
 -- Lengths one behind another, as far as the files are there.
-use Rattle.std.specs.Prelude.{◌≡◌, ℕ, ◌+◌, ◌<◌, ◌≤◌, Bool, true, false, not, if◌then◌else◌, MatchBool, Option, Some, None}
-use Rattle.std.specs.Prelude.{Ok, Err, IsSome, IsSomeAnd, List, [], ◌∷◌, ◌++◌, drop, length, map, slice_index_or, take}
+use Rattle.std.specs.Prelude.{◌≡◌, ℕ, ◌+◌, ◌<◌, ◌≤◌, Bool, true, false, not, if◌then◌else◌, MatchBool}
+use Rattle.std.specs.Prelude.{Option, Some, None, Ok, Err, IsSome, IsSomeAnd}
+use Rattle.std.specs.Prelude.{List, [], ◌∷◌, ◌++◌, drop, length, map, slice_index_or, take}
 use Rattle.std.specs.List.{position_from}
 use Rattle.std.proofs.Common.{refl, ap, sym, subst, ◌∙◌, append_assoc, get_or}
 use Rattle.std.proofs.lemmas.Iterator.Adapters.{position_from-zero}
@@ -133,7 +134,8 @@ read_all file sources lens k read all =
 -- ---- the next one refuses
 
 first_is : (file : Tree) (sources : List Source) (lens : List ℕ) (k : ℕ) (source : Source)
-    → Read file sources lens k → IsAt sources k source → is_absent file source ≡ true → first_absent file sources ≡ Some k
+    → Read file sources lens k → IsAt sources k source → is_absent file source ≡ true
+    → first_absent file sources ≡ Some k
 first_is file sources lens k source read here absent =
     let rest : Option ℕ = position_from (is_absent file) (k + 1) (drop (k + 1) sources) in
     sym (found (is_absent file source) k rest absent ∙ looked_for file sources lens k source read here)

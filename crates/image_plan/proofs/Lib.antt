@@ -1,2 +1,3 @@
 -- lemmas
 mod Lengths
+mod Parts

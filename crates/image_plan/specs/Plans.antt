@@ -1,5 +1,5 @@
 -- What is said of an image: its layout, or the first refusal.
-use Rattle.std.specs.Prelude.{◌≡◌, ◌≢◌, ℕ, Bool, true, false, List, Option, Some, None, Result, Ok, Err}
+use Rattle.std.specs.Prelude.{◌≡◌, ◌≢◌, ℕ, Bool, true, false, List, Option, Some, None, All, Result, Ok, Err}
 use Rattle.base_fields.specs.Results.{◌>>=◌}
 use Rattle.conf_keys.specs.declared.conf.FlashSection.{FlashSection}
 use Rattle.conf_keys.specs.declared.conf.Kind.{Kind}
@@ -67,6 +67,12 @@ pub record IsPlaced (spec : ImageSpec) (layout : Layout) : Type 0 where
   pub lengths : AreLengths spec.sources lens
   pub free : refusal_by spec lens ≡ None
   pub is : layout ≡ layout_by spec lens
+
+-- its file is the image's, and that of no partition where it is that of no source
+pub record HasOwnFile (spec : ImageSpec) (layout : Layout) : Type 0 where
+  pub file : layout.file ≡ spec.full
+  pub apart : All (λ source. source.file ≢ Some spec.full) spec.sources
+      → All (λ p. p.source ≢ Some layout.file) layout.parts
 
 -- some by which it is refused so
 pub record IsRefused (spec : ImageSpec) (fault : PlaceFault) : Type 0 where

@@ -5,7 +5,7 @@ ghost use Rattle.image_specs.specs.IsSpec.{IsSpec};
 ghost use Rattle.job_stages.specs.Stages.{Gives};
 ghost use Rattle.outside.specs.Counts.{NoneFell};
 ghost use Rattle.image_plan.specs.Faults.{IsShown, is_counted};
-ghost use Rattle.image_plan.specs.Plans.{IsPlaced, IsPlanFault, is_planned, plan_said};
+ghost use Rattle.image_plan.specs.Plans.{HasOwnFile, IsPlaced, IsPlanFault, is_planned, plan_said};
 
 use crate::PlanFault;
 use crate::measuring::lengths;
@@ -34,6 +34,7 @@ pub fn plan_image<F: Files>(
     ensures placed { IfOk result (IsPlaced spec.now) }
     ensures fault { IfErr result (IsPlanFault spec.now) }
     ensures layout { IfOk result IsLayout }
+    ensures own { IfOk result (HasOwnFile spec.now) }
 
     ensures none_fell { NoneFell (F.counts files.old) (F.counts files.new) }
     ensures same_files { F.file files.new ≡ F.file files.old }

@@ -16,7 +16,8 @@ returns-in_err-length_of-clause-said g c = λ told.
     let fault = c.in_err-length_of.field-0.0 in
     let same : c.from_residual.result ≡ Err c.in_err-length_of.field-0.0 = search rules in
     let source : Source = c.index-sources-k.result in
-    let here : IsAt c.args.sources.now c.loop-k.k source = record { inside = c.loop-k-test.true; is = c.index-sources-k.is } in
+    let here : IsAt c.args.sources.now c.loop-k.k source =
+    record { inside = c.loop-k-test.true; is = c.index-sources-k.is } in
     let said = rw c.loop-k.invariant.same_files at c.in_err-length_of.ensures.said told in
     rw same (read_refuses (g.F.Files.file c.args.files.now) c.args.sources.now c.loop-k.lens c.loop-k.k source fault
     (c.loop-k.invariant.read told) here said)
@@ -26,7 +27,8 @@ returns-in_err-length_of-clause-fault g c =
     let fault = c.in_err-length_of.field-0.0 in
     let same : c.from_residual.result ≡ Err c.in_err-length_of.field-0.0 = search rules in
     let source : Source = c.index-sources-k.result in
-    let here : IsAt c.args.sources.now c.loop-k.k source = record { inside = c.loop-k-test.true; is = c.index-sources-k.is } in
+    let here : IsAt c.args.sources.now c.loop-k.k source =
+    record { inside = c.loop-k-test.true; is = c.index-sources-k.is } in
     rw same (own_is_length c.args.sources.now c.loop-k.k source fault here c.in_err-length_of.ensures.fault)
 
 pub loop-k-preserved : goal.loop-k-preserved
@@ -36,7 +38,8 @@ loop-k-preserved g c =
     let len = c.in_ok-length_of.field-0 in
     let grown : c.push.new.self ≡ c.loop-k.lens ++ c.in_ok-length_of.field-0 ∷ [] = c.in_ok-push.ensures.ok in
     let source : Source = c.index-sources-k.result in
-    let here : IsAt c.args.sources.now c.loop-k.k source = record { inside = c.loop-k-test.true; is = c.index-sources-k.is } in
+    let here : IsAt c.args.sources.now c.loop-k.k source =
+    record { inside = c.loop-k-test.true; is = c.index-sources-k.is } in
     record {
       none_fell = search rules;
       same_files = search rules;
@@ -50,5 +53,5 @@ loop-k-preserved g c =
 
 pub returns-clause-said : goal.returns-clause-said
 returns-clause-said g c = λ told.
-    read_all (g.F.Files.file c.args.files.now) c.args.sources.now c.loop-k.lens c.loop-k.k (c.loop-k.invariant.read told)
-    c.loop-k-test.false
+    read_all (g.F.Files.file c.args.files.now) c.args.sources.now c.loop-k.lens c.loop-k.k
+    (c.loop-k.invariant.read told) c.loop-k-test.false
