@@ -70,7 +70,8 @@ CheckingKeepsSince id r old new = (m : BlockMap) (source : Option (List ℕ)) (b
 pub record AreUnitsOf (id : JobId) (m : BlockMap) (r first count : ℕ) : Type 0 where
   pub there : r < id.ranges
   pub from : first_of (units_by_range m id.unit) r ≤ first
-  pub to : first + count ≤ first_of (units_by_range m id.unit) r + length (slice_index_or (units_by_range m id.unit) r [])
+  pub to : first + count ≤
+      first_of (units_by_range m id.unit) r + length (slice_index_or (units_by_range m id.unit) r [])
 
 -- a pair allows that: all units of the range are recorded, and it isn't checked
 pub record MayClear (id : JobId) (m : BlockMap) (r : ℕ) (t j : List ℕ) : Type 0 where
