@@ -1,19 +1,22 @@
 -- Each stage, of what its calls did to the devices.
-use Rattle.std.proofs.Common.{ℕ, ◌<◌, List, [], ◌∷◌, All, Contains, inl, inr, ap, refl, subst, sym, ◌∙◌, arith}
+use Rattle.std.proofs.Common.{ℕ, ◌<◌, ◌≤◌, List, [], ◌∷◌, All, Contains, inl, inr, ap, refl, subst, sym, ◌∙◌, arith}
 use Rattle.std.proofs.lemmas.List.Elements.{All-contains}
 use Rattle.bench.specs.declared.Dev.{Dev}
 use Rattle.bench.specs.declared.Dev.TheVariants.{Target, Journal}
 use Rattle.bench.specs.Disk.{Disk, IsSettled, Looked, Steps, Touches}
-use Rattle.bench.proofs.DiskLemmas.{journal_keeps, journal_steps, looked_runs, runs_so, runs_then, target_keeps, torn_at_none, torn_within}
+use Rattle.bench.proofs.DiskLemmas.{journal_keeps, journal_steps, looked_runs, runs_so, runs_then, target_keeps, torn_at_none, torn_at_so, torn_within}
 use Rattle.block_map.specs.Units.{first_of, units_by_range}
-use Rattle.journal_format.specs.Journals.{range_mark, unit_mark}
+use Rattle.journal_format.specs.Journals.{IsOpenedFor, range_mark, unit_mark}
 use Rattle.journal_format.specs.declared.jobs.JobId.{JobId}
+use Rattle.copy_states.specs.Jobs.{IsOwn}
 use Rattle.copy_states.specs.Standing.{Since}
 use Rattle.copy_laws.specs.Marks.{MarksTorn}
 use Rattle.copy_laws.specs.Writes.{UnitTorn}
 use Rattle.copy_laws.proofs.Events.{checking_keeps_standing, clearing_keeps_standing, recording_keeps_standing}
+use Rattle.copy_laws.proofs.Opening.{marks_keep_own}
 use Rattle.copy_laws.proofs.Writes.{one_unit_torn, writes_keep_since}
-use Rattle.copy_stages.specs.Stages.{CheckingKeepsSince, ClearingKeepsSince, Closes, ClosingKeepsSince, IsClosingPair, WritingKeepsSince}
+use Rattle.copy_journal.proofs.KeptOpened.{mark_behind, opened_kept, torn_behind}
+use Rattle.copy_stages.specs.Stages.{CheckingKeepsSince, ClearingKeepsSince, Closes, ClosingKeepsSince, IsClosingPair, KeepsOwn, WritingKeepsSince}
 
 -- ---- one call
 pub writing_keeps_since : {at n : ℕ} {a b : Disk} → Touches Target at n a b → WritingKeepsSince at n a b
@@ -75,3 +78,28 @@ closing_keeps_since {id} {ks} {a} {c} units reads closes m source before job cop
           rest = since.rest;
         } in
         subst (λ (x : List ℕ). Since id m source before x j) (sym is) now
+
+-- ---- whose journal it is
+pub writing_keeps_own : {at n : ℕ} {a b : Disk} → Touches Target at n a b → (id : JobId) → KeepsOwn id a b
+writing_keeps_own {at} {n} {a} {b} touches id = target_keeps touches (λ t new j pair own torn. own)
+
+pub touching_keeps_own : {id : JobId} {at n : ℕ} {a b : Disk} → 80 ≤ at → Touches Journal at n a b → KeepsOwn id a b
+touching_keeps_own {id} {at} {n} {a} {b} behind touches =
+    journal_keeps touches (λ t j new pair own torn. marks_keep_own id j new torn.size (λ k low. torn.below k (omega (arith, low, behind))) own)
+
+pub closing_keeps_own : {id : JobId} {ks : List ℕ} {a c : Disk} → a.leaves Target (a.reads Target) → Closes ks a c → KeepsOwn id a c
+closing_keeps_own {id} {ks} {a} {c} reads closes each = runs_so closes.pairs by_pair
+  where
+    by_pair : (t j : List ℕ) → IsClosingPair ks a t j → IsOwn id j
+    by_pair t j (inl pair) = each t j pair
+    by_pair t j (inr (is, (was, (leaves, torn)))) =
+        marks_keep_own id was j torn.size (λ k low. torn.same k (λ mark. absurd (omega (arith, low, mark_behind ks k mark)))) (each (a.reads Target) was (reads, leaves))
+
+-- it stays opened
+pub touching_keeps_opened : {id : JobId} {at n : ℕ} {a b : Disk} → 80 ≤ at → Touches Journal at n a b → IsOpenedFor id (a.reads Journal) → IsOpenedFor id (b.reads Journal)
+touching_keeps_opened {id} {at} {n} {a} {b} behind touches opened =
+    opened_kept id (a.reads Journal) (b.reads Journal) (torn_behind at n (a.reads Journal) (b.reads Journal) behind touches.reads) opened
+
+pub closing_keeps_opened : {id : JobId} {ks : List ℕ} {a c : Disk} → Closes ks a c → IsOpenedFor id (a.reads Journal) → IsOpenedFor id (c.reads Journal)
+closing_keeps_opened {id} {ks} {a} {c} closes opened =
+    opened_kept id (a.reads Journal) (c.reads Journal) (torn_at_so closes.journal (λ k mark. mark_behind ks k mark)) opened

@@ -8,10 +8,15 @@ use Rattle.block_map.specs.Units.{first_of, units_by_range}
 use Rattle.block_map.specs.declared.maps.BlockMap.{BlockMap}
 use Rattle.block_map.specs.declared.maps.Range.{Range}
 use Rattle.journal_format.specs.declared.jobs.JobId.{JobId}
-use Rattle.copy_states.specs.Jobs.{AreRecorded, IsChecked, IsJobOf, IsRangeAt, IsUnitAt}
+use Rattle.copy_states.specs.Jobs.{AreRecorded, IsChecked, IsJobOf, IsOwn, IsRangeAt, IsUnitAt}
 use Rattle.copy_states.specs.Standing.{HasItsDigest, Since}
 use Rattle.copy_laws.specs.Marks.{AreCopied, MarksTorn}
 use Rattle.copy_laws.specs.Writes.{NoneIsChecked, NoneIsRecorded}
+
+-- ---- whose journal it is
+-- where each pair's journal isn't held or is opened for the job, so is that of each since
+abbrev pub KeepsOwn : JobId → Disk → Disk → Type 0
+KeepsOwn id = Keeps (λ t j. IsOwn id j)
 
 -- ---- a unit is written
 -- n bytes at an offset are unit k's
@@ -65,7 +70,8 @@ CheckingKeepsSince id r old new = (m : BlockMap) (source : Option (List ℕ)) (b
 pub record AreUnitsOf (id : JobId) (m : BlockMap) (r first count : ℕ) : Type 0 where
   pub there : r < id.ranges
   pub from : first_of (units_by_range m id.unit) r ≤ first
-  pub to : first + count ≤ first_of (units_by_range m id.unit) r + length (slice_index_or (units_by_range m id.unit) r [])
+  pub to : first + count ≤
+      first_of (units_by_range m id.unit) r + length (slice_index_or (units_by_range m id.unit) r [])
 
 -- a pair allows that: all units of the range are recorded, and it isn't checked
 pub record MayClear (id : JobId) (m : BlockMap) (r : ℕ) (t j : List ℕ) : Type 0 where

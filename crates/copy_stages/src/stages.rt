@@ -4,11 +4,12 @@ ghost use Rattle.base_fields.specs.Fields.{written};
 ghost use Rattle.base_fields.specs.Numbers.{IsBetween};
 ghost use Rattle.bench.specs.Disk.{IsSettled, Touches};
 ghost use Rattle.bench.specs.Meter.{Costs, CostsOn, IsAttached, SameNames};
+ghost use Rattle.journal_format.specs.declared.jobs.JobId.{JobId};
 ghost use Rattle.journal_format.specs.JobFields.{IsWithinLimits};
 ghost use Rattle.journal_format.specs.Journals.{IsMarked, IsOpenedFor, range_mark, unit_mark};
 ghost use Rattle.copy_journal.specs.Events.{AreZero};
 ghost use Rattle.copy_stages.specs.Faults.{IsCause, IsCauseOn};
-ghost use Rattle.copy_stages.specs.Stages.{CheckingKeepsSince, ClearingKeepsSince, Closes, ClosingKeepsSince, WritingKeepsSince};
+ghost use Rattle.copy_stages.specs.Stages.{CheckingKeepsSince, ClearingKeepsSince, Closes, ClosingKeepsSince, KeepsOwn, WritingKeepsSince};
 
 use crate::DeviceFault;
 use bench::{Bench, Dev};
@@ -22,6 +23,7 @@ pub fn write_unit<B: Bench>(bench: &mut B, at: u64, bytes: &[u8]) -> Result<(), 
     ensures touches { B.told → Touches Dev.Target at (length bytes.now) (B.disk bench.old) (B.disk bench.new) }
     ensures wrote { B.told → OnOk result ((B.disk bench.new).reads Dev.Target ≡ written ((B.disk bench.old).reads Dev.Target) at bytes.now) }
     ensures since { B.told → WritingKeepsSince at (length bytes.now) (B.disk bench.old) (B.disk bench.new) }
+    ensures own { B.told → (id : JobId) → KeepsOwn id (B.disk bench.old) (B.disk bench.new) }
     ensures cause { IfErr result (IsCauseOn Dev.Target (B.meter bench.old) (B.meter bench.new)) }
     ensures bill { CostsOn Dev.Target (32 + length bytes.now) (B.meter bench.old) (B.meter bench.new) }
     ensures same_names { SameNames (B.meter bench.old) (B.meter bench.new) }
@@ -45,6 +47,8 @@ pub fn close_window<B: Bench>(bench: &mut B, id: &JobId, ks: &[u64]) -> Result<(
     ensures settled_target { B.told → OnOk result (IsSettled (B.disk bench.new) Dev.Target) }
     ensures settled { OnOk result (IsSettled (B.disk bench.new) Dev.Journal) }
     ensures since { B.told → ClosingKeepsSince id.now ks.now (B.disk bench.old) (B.disk bench.new) }
+    ensures own { B.told → KeepsOwn id.now (B.disk bench.old) (B.disk bench.new) }
+    ensures still { B.told → IsOpenedFor id.now ((B.disk bench.new).reads Dev.Journal) }
     ensures cause { IfErr result (IsCause (B.meter bench.old) (B.meter bench.new)) }
     ensures bill { Costs (800 + 2 * length ks.now) (B.meter bench.old) (B.meter bench.new) }
     ensures same_names { SameNames (B.meter bench.old) (B.meter bench.new) }
@@ -64,6 +68,8 @@ pub fn check_range<B: Bench>(bench: &mut B, id: &JobId, r: u64) -> Result<(), De
     ensures marked { B.told → OnOk result (IsMarked ((B.disk bench.new).reads Dev.Journal) (range_mark id.now r)) }
     ensures settled { OnOk result (IsSettled (B.disk bench.new) Dev.Journal) }
     ensures since { B.told → CheckingKeepsSince id.now r (B.disk bench.old) (B.disk bench.new) }
+    ensures own { B.told → KeepsOwn id.now (B.disk bench.old) (B.disk bench.new) }
+    ensures still { B.told → IsOpenedFor id.now ((B.disk bench.new).reads Dev.Journal) }
     ensures cause { IfErr result (IsCauseOn Dev.Journal (B.meter bench.old) (B.meter bench.new)) }
     ensures bill { CostsOn Dev.Journal 770 (B.meter bench.old) (B.meter bench.new) }
     ensures same_names { SameNames (B.meter bench.old) (B.meter bench.new) }
@@ -88,6 +94,8 @@ pub fn clear_units<B: Bench>(
     ensures cleared { B.told → OnOk result (AreZero (unit_mark first) count ((B.disk bench.new).reads Dev.Journal)) }
     ensures settled { OnOk result (IsSettled (B.disk bench.new) Dev.Journal) }
     ensures since { B.told → ClearingKeepsSince id.now first count (B.disk bench.old) (B.disk bench.new) }
+    ensures own { B.told → KeepsOwn id.now (B.disk bench.old) (B.disk bench.new) }
+    ensures still { B.told → IsOpenedFor id.now ((B.disk bench.new).reads Dev.Journal) }
     ensures cause { IfErr result (IsCauseOn Dev.Journal (B.meter bench.old) (B.meter bench.new)) }
     ensures bill { CostsOn Dev.Journal (768 + 2 * count) (B.meter bench.old) (B.meter bench.new) }
     ensures same_names { SameNames (B.meter bench.old) (B.meter bench.new) }

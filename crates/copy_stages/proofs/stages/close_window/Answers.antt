@@ -1,5 +1,5 @@
 use Rattle.bench.specs.declared.Dev.TheVariants.{Target}
-use Rattle.copy_stages.proofs.StageLemmas.{closing_keeps_since, looked_closes, settled_closes, target_settled}
+use Rattle.copy_stages.proofs.StageLemmas.{closing_keeps_opened, closing_keeps_own, closing_keeps_since, looked_closes, settled_closes, target_settled}
 use Rattle.copy_stages.proofs.stages.close_window.Goals as goal
 
 pub returns-in_err-sync-clause-closes : goal.returns-in_err-sync-clause-closes
@@ -29,3 +29,27 @@ pub returns-clause-since : goal.returns-clause-since
 returns-clause-since g c told =
     closing_keeps_since c.requires.inside (g.met.B.Bench.reads_leave told c.args.bench.now Target)
     (settled_closes c.args.ks.now c.sync.ensures.looked c.in_ok-sync.ensures.settled (c.record_units.ensures.moves told))
+
+pub returns-in_err-sync-clause-own : goal.returns-in_err-sync-clause-own
+returns-in_err-sync-clause-own g c told =
+    closing_keeps_own (g.met.B.Bench.reads_leave told c.args.bench.now Target) (looked_closes c.args.ks.now c.sync.ensures.looked)
+
+pub returns-in_err-sync-clause-still : goal.returns-in_err-sync-clause-still
+returns-in_err-sync-clause-still g c told =
+    closing_keeps_opened (looked_closes c.args.ks.now c.sync.ensures.looked) (c.requires.opened told)
+
+pub returns-in_err-record_units-clause-own : goal.returns-in_err-record_units-clause-own
+returns-in_err-record_units-clause-own g c told =
+    closing_keeps_own (g.met.B.Bench.reads_leave told c.args.bench.now Target) (settled_closes c.args.ks.now c.sync.ensures.looked c.in_ok-sync.ensures.settled (c.record_units.ensures.moves told))
+
+pub returns-in_err-record_units-clause-still : goal.returns-in_err-record_units-clause-still
+returns-in_err-record_units-clause-still g c told =
+    closing_keeps_opened (settled_closes c.args.ks.now c.sync.ensures.looked c.in_ok-sync.ensures.settled (c.record_units.ensures.moves told)) (c.requires.opened told)
+
+pub returns-clause-own : goal.returns-clause-own
+returns-clause-own g c told =
+    closing_keeps_own (g.met.B.Bench.reads_leave told c.args.bench.now Target) (settled_closes c.args.ks.now c.sync.ensures.looked c.in_ok-sync.ensures.settled (c.record_units.ensures.moves told))
+
+pub returns-clause-still : goal.returns-clause-still
+returns-clause-still g c told =
+    closing_keeps_opened (settled_closes c.args.ks.now c.sync.ensures.looked c.in_ok-sync.ensures.settled (c.record_units.ensures.moves told)) (c.requires.opened told)
