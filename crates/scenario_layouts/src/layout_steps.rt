@@ -1,4 +1,5 @@
 //! Steps on layouts.
+use crate::composing::make_image;
 use crate::planning::{Plan, plan_of};
 use crate::shown_layout::ShownLayout;
 use crate::shown_refusal::ShownPlaceFault;
@@ -12,6 +13,8 @@ pub enum LayoutStep {
     Layout { conf: String, image: String },
     /// The offsets that the layout covers.
     Covered { conf: String, image: String },
+    /// Makes the image.
+    Compose { conf: String, image: String },
 }
 
 impl LayoutStep {
@@ -26,6 +29,10 @@ impl LayoutStep {
                 conf: words.text("a file")?,
                 image: words.text("an image")?,
             },
+            "compose" => LayoutStep::Compose {
+                conf: words.text("a file")?,
+                image: words.text("an image")?,
+            },
             _ => return Ok(None),
         };
         Ok(Some(step))
@@ -36,6 +43,7 @@ impl LayoutStep {
         match self {
             LayoutStep::Layout { conf, image } => show_layout(setting, &conf, &image),
             LayoutStep::Covered { conf, image } => show_covered(setting, &conf, &image),
+            LayoutStep::Compose { conf, image } => make_image(setting, &conf, &image),
         }
     }
 }

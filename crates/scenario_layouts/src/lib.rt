@@ -2,11 +2,13 @@
 //! which bytes are covered.
 #![tactic(auto)]
 
+mod composing;
 mod layout_steps;
 mod planning;
 mod shown_layout;
 mod shown_refusal;
 
+pub use composing::make_image;
 pub use layout_steps::LayoutStep;
 pub use planning::{Plan, plan_of};
 pub use shown_layout::ShownLayout;
