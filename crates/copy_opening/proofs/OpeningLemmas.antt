@@ -1,0 +1,74 @@
+-- The opening of a copy, of what its calls did to the devices, and what that keeps.
+use Rattle.std.proofs.Common.{◌≡◌, ℕ, ◌+◌, ◌<◌, ◌≤◌, List, length, take, drop, replicate, slice_index, inl, inr, ⊎_elim, ap, sym, ◌∙◌, arith}
+use Rattle.std.proofs.lemmas.List.{ext_get_or, get_or-drop, get_or-replicate, get_or-take, length-drop, length-replicate, length-take-le}
+use Rattle.bench.specs.declared.Dev.{Dev}
+use Rattle.bench.specs.declared.Dev.TheVariants.{Target, Journal}
+use Rattle.bench.specs.Disk.{Disk, Looked, Moves}
+use Rattle.bench.proofs.DiskLemmas.{journal_runs, looked_runs, runs_so, runs_then}
+use Rattle.journal_format.specs.declared.jobs.JobId.{JobId}
+use Rattle.copy_states.specs.Jobs.{IsOwn}
+use Rattle.copy_states.specs.Standing.{Since}
+use Rattle.copy_laws.proofs.Events.{new_stands, unheld_stands}
+use Rattle.copy_journal.specs.Events.{AreMarks, IsNew, IsOpening}
+use Rattle.copy_journal.specs.declared.marks.Marks.{Marks}
+use Rattle.copy_opening.specs.Opening.{AreZeros, IsOpeningPair, KeepsOwn, OpeningKeepsSince, Opens}
+
+-- ---- the devices
+pub looked_opens : (id : JobId) {a b : Disk} → Looked a b → Opens id a b
+looked_opens id {a} {b} looked = record {
+  target = ap (λ (f : Dev → List ℕ). f Target) looked.reads;
+  pairs = looked_runs looked (λ t j pair. (pair.0, inl pair.1));
+}
+
+-- a look, and the journal is opened
+pub opens_then : (id : JobId) {a b c : Disk} → Looked a b → Moves (IsOpening id b) b c → Opens id a c
+opens_then id {a} {b} {c} looked moves = record {
+  target = moves.other_reads ∙ ap (λ (f : Dev → List ℕ). f Target) looked.reads;
+  pairs = runs_then (looked_runs looked (λ t j pair. (pair.0, inl pair.1))) (journal_runs moves (λ t j leaves is.
+      (looked.images Target t leaves, ⊎_elim (λ was. inl (looked.images Journal j was)) (λ new. inr new) is)));
+}
+
+-- ---- the marks
+zero_run : (at n : ℕ) (j : List ℕ) → at + n ≤ length j → ((k : ℕ) → k < n → slice_index j (at + k) ≡ 0) → replicate n 0 ≡ take n (drop at j)
+zero_run at n j inside zero =
+    let long : length {A = ℕ} (replicate n 0) ≡ n = length-replicate n 0 in
+    let size : length (take n (drop at j)) ≡ n = length-take-le n (drop at j) (omega (arith, length-drop at j)) in
+    ext_get_or 0 (replicate n 0) (take n (drop at j)) (long ∙ sym size) (λ i h.
+    let below : i < n = omega (arith, h, long) in
+    get_or-replicate n i 0 0 below ∙ sym (get_or-take n (drop at j) i 0 below ∙ (get_or-drop at j i 0 ∙ zero i below)))
+
+pub zeros_are_marks : (id : JobId) (w : ℕ) (j : List ℕ) (marks : Marks) → IsNew id w j → AreZeros id w marks → AreMarks id j marks
+zeros_are_marks id w j marks new zeros =
+    let long = new.opened.long in
+    record {
+      units = zeros.units ∙ zero_run 80 id.units j (omega (arith, long)) (λ k h. new.marks k (omega (arith, h)));
+      ranges = zeros.ranges ∙ zero_run (80 + id.units) id.ranges j (omega (arith, long)) (λ k h.
+          let place : 80 + (id.units + k) ≡ 80 + id.units + k = omega arith in
+          ap (slice_index j) (sym place) ∙ new.marks (id.units + k) (omega (arith, h)));
+      window = zeros.window ∙ sym new.window;
+    }
+
+-- ---- what is kept of each pair
+pub opening_keeps_own : (id : JobId) {a b : Disk} → Opens id a b → KeepsOwn id a b
+opening_keeps_own id {a} {b} opens each =
+    runs_so opens.pairs by_pair
+  where
+    by_pair : (t j : List ℕ) → IsOpeningPair id a t j → IsOwn id j
+    by_pair t j (leaves, inl was) = each j was
+    by_pair t j (leaves, inr (inl none)) = inl none
+    by_pair t j (leaves, inr (inr (opened, no_mark))) = inr opened
+
+pub opening_keeps_since : (id : JobId) {a b : Disk} → a.leaves Journal (a.reads Journal) → Opens id a b → OpeningKeepsSince id a b
+opening_keeps_since id {a} {b} reads opens m source before job each =
+    runs_so opens.pairs by_pair
+  where
+    by_pair : (t j : List ℕ) → IsOpeningPair id a t j → Since id m source before t j
+    by_pair t j (leaves, inl was) = each t j (leaves, was)
+    by_pair t j (leaves, inr (inl none)) = record {
+      standing = unheld_stands id m source t j none;
+      rest = (each t (a.reads Journal) (leaves, reads)).rest;
+    }
+    by_pair t j (leaves, inr (inr (opened, no_mark))) = record {
+      standing = new_stands id m source t j job no_mark;
+      rest = (each t (a.reads Journal) (leaves, reads)).rest;
+    }
