@@ -35,3 +35,49 @@ clearing_is_near {id} {first} {count} {a} {b} touches m source s start w p want 
     let row : RowTorn id m p.range (a.reads Journal) new = torn_within (unit_mark (first_of (units_by_range m id.unit) p.range)) _ from_reads (omega (arith, units.from)) (omega (arith, units.to)) in
     let near : IsNear id m s start w (a.reads Target) new = clear_is_near id m source s start w p want got (a.reads Target) (a.reads Journal) new job way.along way.position units.there mixed differs row in
     subst (λ (x : List ℕ). IsNear id m s start w x new) (sym (way.target t pair.0)) near)
+
+-- ---- what may be open
+-- each pair is near before a stage
+pub open_is_near : {id : JobId} {m : BlockMap} {source : Option (List ℕ)} {start : Pair} {w : ℕ} {p : Position} {units t : List ℕ} {a : Disk} (s : List ℕ) → IsJobOf id m → IsOpenAlong id m source start w p units t a → EachPair a (IsNear id m s start w)
+open_is_near {id} {m} {source} {start} {w} {p} {units} {t} {a} s job way image j pair =
+    units_are_near id m source s start w p units units t (a.reads Journal) image j job way.along way.may_be way.may_be (way.images image pair.0)
+    (subst (λ (x : List ℕ). MarksTorn units (a.reads Journal) x) (sym (way.journal j pair.1)) (torn_at_none _ (a.reads Journal)))
+
+pub looking_is_near : {a b : Disk} → Looked a b → LookingIsNear a b
+looking_is_near {a} {b} looked id m source s start w p units t job way = looked_runs looked (open_is_near s job way)
+
+-- ---- marks behind the target's bytes
+pub closing_is_near : {id : JobId} {ks : List ℕ} {a b : Disk} → Closes ks a b → ClosingIsNear id ks a b
+closing_is_near {id} {ks} {a} {b} closes m source s start w p units t job way are_marked = runs_so closes.pairs by_pair
+  where
+    by_pair : (image j : List ℕ) → IsClosingPair ks a image j → IsNear id m s start w image j
+    by_pair image j (inl pair) = open_is_near s job way image j pair
+    by_pair image j (inr (is, (was, (leaves, torn)))) =
+        let bytes : UnitsTorn id m units t image = subst (λ (x : List ℕ). UnitsTorn id m units t x) (sym is) way.reads in
+        let marks : MarksTorn ks (a.reads Journal) j = subst (λ (x : List ℕ). MarksTorn ks x j) (way.journal was leaves) torn in
+        units_are_near id m source s start w p units ks t (a.reads Journal) image j job way.along way.may_be are_marked bytes marks
+
+-- ---- a unit's bytes
+-- bytes of an open unit, behind others
+written_more : (id : JobId) (m : BlockMap) (units : List ℕ) (k at n : ℕ) (t old new : List ℕ) → Contains units k → AreBytesOf id m k at n → UnitsTorn id m units t old → Torn at n old new → UnitsTorn id m units t new
+written_more id m units k at n t old new among bytes before torn =
+    let unit : UnitTorn id m k old new = record { span = bytes.span; is = bytes.is; torn = torn_within bytes.span.at bytes.span.len torn bytes.from bytes.to } in
+    torn_at_then before (one_unit_torn id m units k old new among unit)
+
+pub writing_is_near : {at n : ℕ} {a b : Disk} → Touches Target at n a b → WritingIsNear at n a b
+writing_is_near {at} {n} {a} {b} touches id m source s start w p units t k job way among bytes =
+    target_steps touches (λ old new j pair torn.
+    units_are_near id m source s start w p units units t (a.reads Journal) new j job way.along way.may_be way.may_be
+    (written_more id m units k at n t old new among bytes (way.images old pair.0) torn)
+    (subst (λ (x : List ℕ). MarksTorn units (a.reads Journal) x) (sym (way.journal j pair.1)) (torn_at_none _ (a.reads Journal))))
+
+pub writing_stays_open : {at n : ℕ} {a b : Disk} → Touches Target at n a b → WritingStaysOpen at n a b
+writing_stays_open {at} {n} {a} {b} touches id m source start w p units t k job way among bytes = record {
+  along = subst (λ (j : List ℕ). Along id m source start w p t j) (sym touches.changes.other_reads) way.along;
+  may_be = way.may_be;
+  reads = written_more id m units k at n t (a.reads Target) (b.reads Target) among bytes way.reads touches.reads;
+  images = λ image leaves.
+      let (old, (was, torn)) = touches.changes.images image leaves in
+      written_more id m units k at n t old image among bytes (way.images old was) torn;
+  journal = λ j leaves. way.journal j (touches.changes.other_images j leaves) ∙ sym touches.changes.other_reads;
+}

@@ -1,4 +1,4 @@
-ghost use Rattle.copy_narrow.specs.Nearness.{ChecksAreNear, ClearingsAreNear};
+ghost use Rattle.copy_narrow.specs.Nearness.{ChecksAreNear, ClearingsAreNear, ClosingsAreNear, LooksAreNear, WritesAreNear, WritesStayOpen};
 
 use bench::Bench;
 
@@ -10,4 +10,22 @@ use bench::Bench;
 pub fn journal_stages_are_near<B: Bench>(before: &B, after: &B)
     ensures check { ChecksAreNear (B.disk before.now) (B.disk after.now) }
     ensures clear { ClearingsAreNear (B.disk before.now) (B.disk after.now) }
+{}
+
+/// Nothing is done: the contract is the law of the closing of a window, between two states of a bench.
+///
+/// Where the journal is settled and only open units may have been written since the copier was along, any marks
+/// of open units stay near to the start; so does what is left where nothing is written.
+pub fn windows_are_near<B: Bench>(before: &B, after: &B)
+    ensures look { LooksAreNear (B.disk before.now) (B.disk after.now) }
+    ensures closing { ClosingsAreNear (B.disk before.now) (B.disk after.now) }
+{}
+
+/// Nothing is done: the contract is the law of the writes of a unit, between two states of a bench.
+///
+/// Any bytes of an open unit stay near to the start, and the copier may go on from there: write again, or close
+/// the window.
+pub fn writes_are_near<B: Bench>(before: &B, after: &B)
+    ensures write { WritesAreNear (B.disk before.now) (B.disk after.now) }
+    ensures goes_on { WritesStayOpen (B.disk before.now) (B.disk after.now) }
 {}

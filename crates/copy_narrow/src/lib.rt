@@ -3,4 +3,4 @@
 
 mod laws;
 
-pub use laws::journal_stages_are_near;
+pub use laws::{journal_stages_are_near, windows_are_near, writes_are_near};
