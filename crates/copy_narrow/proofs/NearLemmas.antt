@@ -1,22 +1,26 @@
 -- Each stage, of what it says of the pairs since it began.
-use Rattle.std.proofs.Common.{◌≡◌, ℕ, ◌<◌, List, Contains, Option, inl, inr, sym, subst, ◌∙◌, arith}
+use Rattle.std.proofs.Common.{◌≡◌, ℕ, ◌<◌, List, [], ◌∷◌, Contains, Option, inl, inr, refl, sym, subst, ⊎_elim, ◌∙◌, arith}
+use Rattle.std.proofs.lemmas.Grind.{same_number_lists}
+use Rattle.std.proofs.lemmas.List.Elements.{Contains-append_left, Contains-push_cases}
 use Rattle.bench.specs.declared.Dev.TheVariants.{Target, Journal}
 use Rattle.bench.specs.Disk.{Disk, EachPair, IsPair, IsSettled, Looked, Torn, Touches}
-use Rattle.bench.proofs.DiskLemmas.{journal_steps, looked_runs, runs_so, target_steps, torn_at_none, torn_at_then, torn_within}
+use Rattle.bench.proofs.DiskLemmas.{journal_steps, looked_runs, runs_since, runs_so, target_steps, torn_at_none, torn_at_so, torn_at_then, torn_within}
 use Rattle.block_map.specs.Units.{first_of, units_by_range}
 use Rattle.block_map.specs.declared.maps.BlockMap.{BlockMap}
 use Rattle.journal_format.specs.Journals.{range_mark, unit_mark}
 use Rattle.journal_format.specs.declared.jobs.JobId.{JobId}
 use Rattle.copy_states.specs.Along.{Along, Position}
 use Rattle.copy_states.specs.Jobs.{IsJobOf}
-use Rattle.copy_states.specs.Starts.{Pair}
+use Rattle.copy_states.specs.Starts.{IsIdle, Pair}
 use Rattle.copy_laws.specs.Marks.{MarksTorn, RangeMarkTorn, RowTorn}
 use Rattle.copy_laws.specs.Narrowing.{IsNear}
-use Rattle.copy_laws.specs.Writes.{UnitTorn, UnitsTorn}
+use Rattle.copy_laws.specs.Steps.{joined_window}
+use Rattle.copy_laws.specs.Writes.{IsByteIn, UnitTorn, UnitsTorn}
 use Rattle.copy_laws.proofs.Nearness.{check_is_near, clear_is_near, units_are_near}
+use Rattle.copy_laws.proofs.Ranges.{end_has_mixed}
 use Rattle.copy_laws.proofs.Writes.{one_unit_torn}
 use Rattle.copy_stages.specs.Stages.{AreBytesOf, Closes, IsClosingPair}
-use Rattle.copy_narrow.specs.Nearness.{CheckingIsNear, ClearingIsNear, ClosingIsNear, IsOpenAlong, LookingIsNear, WritingIsNear, WritingStaysOpen}
+use Rattle.copy_narrow.specs.Nearness.{AllSinceAreNear, CheckingIsNear, ClearingIsNear, ClosingIsNear, EmptyWindowIsSettled, EndGivesMixed, IsOpenAlong, LookingIsNear, WindowIsOpen, WindowTakesUnit, WritingIsNear, WritingStaysOpen}
 
 -- ---- the journal alone
 pub checking_is_near : {id : JobId} {r : ℕ} {a b : Disk} → Touches Journal (range_mark id r) 1 a b → CheckingIsNear id r a b
@@ -80,4 +84,56 @@ writing_stays_open {at} {n} {a} {b} touches id m source start w p units t k job 
       let (old, (was, torn)) = touches.changes.images image leaves in
       written_more id m units k at n t old image among bytes (way.images old was) torn;
   journal = λ j leaves. way.journal j (touches.changes.other_images j leaves) ∙ sym touches.changes.other_reads;
+}
+
+-- ---- a window
+pub window_is_open : (a : Disk) → WindowIsOpen a
+window_is_open a id m source start w p way = record {
+  along = way.along;
+  may_be = λ k among. inl among;
+  reads = torn_at_none _ (a.reads Target);
+  images = way.images;
+  journal = way.journal;
+}
+
+-- a unit of the window is one of the longer window
+wider : (id : JobId) (m : BlockMap) (p : Position) (o : ℕ) → IsByteIn id m p.window o → IsByteIn id m (joined_window p) o
+wider id m p o byte = (byte.0, byte.1, Contains-append_left p.window (p.unit ∷ []) byte.0 byte.2, byte.3, byte.4)
+
+pub window_takes_unit : (a : Disk) → WindowTakesUnit a
+window_takes_unit a id m source start w p way idle = record {
+  along = way.along;
+  may_be = λ k among. ⊎_elim (λ there. inl there) (λ same. inr (sym same, subst (λ (n : ℕ). IsIdle id m start n) same idle)) (Contains-push_cases p.window p.unit k among);
+  reads = torn_at_none _ (a.reads Target);
+  images = λ image leaves. torn_at_so (way.images image leaves) (wider id m p);
+  journal = way.journal;
+}
+
+-- where no unit is torn, nothing is
+none_torn : (id : JobId) (m : BlockMap) (units t new : List ℕ) → units ≡ [] → UnitsTorn id m units t new → new ≡ t
+none_torn id m units t new none torn =
+    same_number_lists new t torn.size (λ o below. torn.same o (λ byte. absurd (no_member (byte.0) (subst (λ (ks : List ℕ). Contains ks byte.0) none byte.2))))
+  where
+    no_member : (k : ℕ) → Contains [] k → ⊥
+    no_member k c = absurd (omega (arith, c.1))
+
+pub empty_window_is_settled : (a : Disk) → EmptyWindowIsSettled a
+empty_window_is_settled a id m source start w p way position none = record {
+  along = way.along;
+  position = position;
+  target = λ image leaves. none_torn id m p.window (a.reads Target) image none (way.images image leaves);
+  journal = way.journal;
+}
+
+pub all_since_are_near : {a b : Disk} → ((t j : List ℕ) → a.left a.moment t j → IsPair a t j) → AllSinceAreNear a b
+all_since_are_near {a} {b} only id m source s start w p units t job way stays = runs_since only (open_is_near s job way) stays
+
+pub end_gives_mixed : EndGivesMixed
+end_gives_mixed id m s start w p t j want range job long along position end is stated = record {
+  range = range;
+  image = t;
+  is = is;
+  stated = stated;
+  mixed = end_has_mixed id m s start w p t j job long along position end;
+  computed = refl;
 }

@@ -1,15 +1,19 @@
 -- How near to the start of its run a stage of a copier stays: for every map of the job, every start and every source,
 -- with s the source's bytes and w the run's window.
-use Rattle.std.specs.Prelude.{◌≡◌, ◌≢◌, ℕ, ◌<◌, List, Option, Contains}
+use Rattle.std.specs.Prelude.{◌≡◌, ◌≢◌, ℕ, ◌<◌, ◌≤◌, List, [], Option, Some, Contains, length}
 use Rattle.bench.specs.declared.Dev.TheVariants.{Target, Journal}
-use Rattle.bench.specs.Disk.{Disk, EachPair, IsSettled, Looked, Runs, Touches}
+use Rattle.bench.specs.Disk.{Disk, EachSince, IsSettled, Looked, Runs, Touches}
+use Rattle.block_map.specs.Maps.{digest_in}
 use Rattle.block_map.specs.declared.maps.BlockMap.{BlockMap}
+use Rattle.block_map.specs.declared.maps.Range.{Range}
 use Rattle.journal_format.specs.Journals.{range_mark, unit_mark}
 use Rattle.journal_format.specs.declared.jobs.JobId.{JobId}
 use Rattle.copy_states.specs.Along.{Along, IsPositionOn, Position}
-use Rattle.copy_states.specs.Jobs.{IsJobOf}
-use Rattle.copy_states.specs.Starts.{MixedGives, Pair}
+use Rattle.copy_states.specs.Jobs.{IsJobOf, IsRangeAt}
+use Rattle.copy_states.specs.Starts.{IsIdle, MixedGives, Pair}
 use Rattle.copy_laws.specs.Narrowing.{AreOpen, IsNear}
+use Rattle.copy_laws.specs.Ranges.{IsAtEnd}
+use Rattle.copy_laws.specs.Steps.{joined_window}
 use Rattle.copy_laws.specs.Writes.{UnitsTorn}
 use Rattle.copy_stages.specs.Stages.{AreBytesOf, AreUnitsOf, Closes}
 
@@ -31,6 +35,31 @@ pub record IsSettledAlong (id : JobId) (m : BlockMap) (source : Option (List ℕ
   pub position : IsPositionOn id m (disk.reads Journal) w p
   pub target : IsSettled disk Target
   pub journal : IsSettled disk Journal
+
+-- At p the copier is along as the devices read. The journal is settled, and each image of the target is what it reads
+-- but for the bytes of the window's units.
+pub record IsWindowAlong (id : JobId) (m : BlockMap) (source : Option (List ℕ)) (start : Pair) (w : ℕ) (p : Position)
+    (disk : Disk) : Type 0 where
+  pub along : Along id m source start w p (disk.reads Target) (disk.reads Journal)
+  pub images : (image : List ℕ) → disk.leaves Target image → UnitsTorn id m p.window (disk.reads Target) image
+  pub journal : IsSettled disk Journal
+
+-- so its window may have been written, and its present unit may be, where that is idle
+abbrev pub WindowIsOpen : Disk → Type 0
+WindowIsOpen disk = (id : JobId) (m : BlockMap) (source : Option (List ℕ)) (start : Pair) (w : ℕ) (p : Position) →
+    IsWindowAlong id m source start w p disk →
+    IsOpenAlong id m source start w p p.window (disk.reads Target) disk
+
+abbrev pub WindowTakesUnit : Disk → Type 0
+WindowTakesUnit disk = (id : JobId) (m : BlockMap) (source : Option (List ℕ)) (start : Pair) (w : ℕ) (p : Position) →
+    IsWindowAlong id m source start w p disk → IsIdle id m start p.unit →
+    IsOpenAlong id m source start w p (joined_window p) (disk.reads Target) disk
+
+-- and where the window is empty, the target is settled, too
+abbrev pub EmptyWindowIsSettled : Disk → Type 0
+EmptyWindowIsSettled disk = (id : JobId) (m : BlockMap) (source : Option (List ℕ)) (start : Pair) (w : ℕ)
+    (p : Position) → IsWindowAlong id m source start w p disk → IsPositionOn id m (disk.reads Journal) w p →
+    p.window ≡ [] → IsSettledAlong id m source start w p disk
 
 -- ---- since a stage
 -- each pair that a stop since may have left is narrow, and keeps what the start has
@@ -93,3 +122,17 @@ ChecksAreNear old new = (id : JobId) (r : ℕ) → Touches Journal (range_mark i
 abbrev pub ClearingsAreNear : Disk → Disk → Type 0
 ClearingsAreNear old new = (id : JobId) (first count : ℕ) →
     Touches Journal (unit_mark first) count old new → ClearingIsNear id first count old new
+
+-- what stays near from a state on is near at each moment since: a stop left no other pair
+abbrev pub AllSinceAreNear : Disk → Disk → Type 0
+AllSinceAreNear old new = (id : JobId) (m : BlockMap) (source : Option (List ℕ)) (s : List ℕ) (start : Pair) (w : ℕ)
+    (p : Position) (units t : List ℕ) → IsJobOf id m → IsOpenAlong id m source start w p units t old →
+    StaysNear id m s start w old new → EachSince old.moment new (IsNear id m s start w)
+
+-- ---- a range that differs
+-- at the end of a range that has a digest, the target's digest there is that of Mixed
+abbrev pub EndGivesMixed : Type 0
+EndGivesMixed = (id : JobId) (m : BlockMap) (s : List ℕ) (start : Pair) (w : ℕ) (p : Position) (t j want : List ℕ)
+    (range : Range) → IsJobOf id m → m.size ≤ length start.target → Along id m (Some s) start w p t j →
+    IsPositionOn id m j w p → IsAtEnd id m p → IsRangeAt m p.range range → range.digest ≡ Some want →
+    MixedGives id m s start p.range want (digest_in m t range)

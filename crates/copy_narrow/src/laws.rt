@@ -1,4 +1,5 @@
-ghost use Rattle.copy_narrow.specs.Nearness.{ChecksAreNear, ClearingsAreNear, ClosingsAreNear, LooksAreNear, WritesAreNear, WritesStayOpen};
+ghost use Rattle.copy_narrow.specs.Nearness.{AllSinceAreNear, ChecksAreNear, ClearingsAreNear, ClosingsAreNear, EmptyWindowIsSettled};
+ghost use Rattle.copy_narrow.specs.Nearness.{EndGivesMixed, LooksAreNear, WindowIsOpen, WindowTakesUnit, WritesAreNear, WritesStayOpen};
 
 use bench::Bench;
 
@@ -28,4 +29,25 @@ pub fn windows_are_near<B: Bench>(before: &B, after: &B)
 pub fn writes_are_near<B: Bench>(before: &B, after: &B)
     ensures write { WritesAreNear (B.disk before.now) (B.disk after.now) }
     ensures goes_on { WritesStayOpen (B.disk before.now) (B.disk after.now) }
+{}
+
+/// Nothing is done: the contract is the law of a copier that is along as the devices read.
+///
+/// Its window's units may have been written, and its present unit may be, where that is idle; where the window
+/// is empty, both devices are settled.
+pub fn windows_are_open<B: Bench>(bench: &B)
+    ensures window { WindowIsOpen (B.disk bench.now) }
+    ensures unit { WindowTakesUnit (B.disk bench.now) }
+    ensures empty { EmptyWindowIsSettled (B.disk bench.now) }
+{}
+
+/// Nothing is done: the contract is the law of all pairs since a state of a bench, by which stages that follow one
+/// another stay near as one.
+pub fn pairs_since_are_near<B: Bench>(before: &B, after: &B)
+    ensures { AllSinceAreNear (B.disk before.now) (B.disk after.now) }
+{}
+
+/// Nothing is done: the contract is the law of a range that differs, whose units are taken back.
+pub fn ends_give_mixed()
+    ensures { EndGivesMixed }
 {}

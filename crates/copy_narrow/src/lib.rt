@@ -3,4 +3,7 @@
 
 mod laws;
 
-pub use laws::{journal_stages_are_near, windows_are_near, writes_are_near};
+pub use laws::{
+    ends_give_mixed, journal_stages_are_near, pairs_since_are_near, windows_are_near,
+    windows_are_open, writes_are_near,
+};
