@@ -3,7 +3,7 @@ use Rattle.std.proofs.Common.{◌≡◌, ℕ, ◌<◌, List, [], ◌∷◌, Cont
 use Rattle.std.proofs.lemmas.Grind.{same_number_lists}
 use Rattle.std.proofs.lemmas.List.Elements.{Contains-append_left, Contains-push_cases}
 use Rattle.bench.specs.declared.Dev.TheVariants.{Target, Journal}
-use Rattle.bench.specs.Disk.{Disk, EachPair, IsPair, IsSettled, Looked, Torn, Touches}
+use Rattle.bench.specs.Disk.{Disk, EachPair, IsPair, Looked, Torn, TornAt, Touches}
 use Rattle.bench.proofs.DiskLemmas.{journal_steps, looked_runs, runs_since, runs_so, target_steps, torn_at_none, torn_at_so, torn_at_then, torn_within}
 use Rattle.block_map.specs.Units.{first_of, units_by_range}
 use Rattle.block_map.specs.declared.maps.BlockMap.{BlockMap}
@@ -20,7 +20,7 @@ use Rattle.copy_laws.proofs.Nearness.{check_is_near, clear_is_near, units_are_ne
 use Rattle.copy_laws.proofs.Ranges.{end_has_mixed}
 use Rattle.copy_laws.proofs.Writes.{one_unit_torn}
 use Rattle.copy_stages.specs.Stages.{AreBytesOf, Closes, IsClosingPair}
-use Rattle.copy_narrow.specs.Nearness.{AllSinceAreNear, CheckingIsNear, ClearingIsNear, ClosingIsNear, EmptyWindowIsSettled, EndGivesMixed, IsOpenAlong, LookingIsNear, WindowIsOpen, WindowTakesUnit, WritingIsNear, WritingStaysOpen}
+use Rattle.copy_narrow.specs.Nearness.{AllSinceAreNear, CheckingIsNear, ClearingIsNear, ClosingIsNear, EmptyWindowIsSettled, EndGivesMixed, IsOpenAlong, LookingIsNear, OpenIsWindow, SettledIsWindow, WindowIsOpen, WindowTakesUnit, WritingIsNear, WritingStaysOpen}
 
 -- ---- the journal alone
 pub checking_is_near : {id : JobId} {r : ℕ} {a b : Disk} → Touches Journal (range_mark id r) 1 a b → CheckingIsNear id r a b
@@ -96,16 +96,16 @@ window_is_open a id m source start w p way = record {
   journal = way.journal;
 }
 
--- a unit of the window is one of the longer window
-wider : (id : JobId) (m : BlockMap) (p : Position) (o : ℕ) → IsByteIn id m p.window o → IsByteIn id m (joined_window p) o
-wider id m p o byte = (byte.0, byte.1, Contains-append_left p.window (p.unit ∷ []) byte.0 byte.2, byte.3, byte.4)
+-- a byte of these units is one of more
+more_units : (id : JobId) (m : BlockMap) (units more : List ℕ) → ((k : ℕ) → Contains units k → Contains more k) → (o : ℕ) → IsByteIn id m units o → IsByteIn id m more o
+more_units id m units more each o byte = (byte.0, byte.1, each byte.0 byte.2, byte.3, byte.4)
 
 pub window_takes_unit : (a : Disk) → WindowTakesUnit a
 window_takes_unit a id m source start w p way idle = record {
   along = way.along;
   may_be = λ k among. ⊎_elim (λ there. inl there) (λ same. inr (sym same, subst (λ (n : ℕ). IsIdle id m start n) same idle)) (Contains-push_cases p.window p.unit k among);
   reads = torn_at_none _ (a.reads Target);
-  images = λ image leaves. torn_at_so (way.images image leaves) (wider id m p);
+  images = λ image leaves. torn_at_so (way.images image leaves) (more_units id m p.window (joined_window p) (λ k among. Contains-append_left p.window (p.unit ∷ []) k among));
   journal = way.journal;
 }
 
@@ -123,6 +123,27 @@ empty_window_is_settled a id m source start w p way position none = record {
   position = position;
   target = λ image leaves. none_torn id m p.window (a.reads Target) image none (way.images image leaves);
   journal = way.journal;
+}
+
+-- two images that are torn from one are torn from each other
+torn_each : {places : ℕ → Type 0} {t a b : List ℕ} → TornAt places t a → TornAt places t b → TornAt places a b
+torn_each {places} {t} {a} {b} first second = record {
+  size = second.size ∙ sym first.size;
+  same = λ k none. second.same k none ∙ sym (first.same k none);
+}
+
+pub open_is_window : (a : Disk) → OpenIsWindow a
+open_is_window a id m source start w p next units t way along each = record {
+  along = along;
+  images = λ image leaves. torn_at_so (torn_each way.reads (way.images image leaves)) (more_units id m units next.window each);
+  journal = way.journal;
+}
+
+pub settled_is_window : (a : Disk) → SettledIsWindow a
+settled_is_window a id m source start w p along target journal = record {
+  along = along;
+  images = λ image leaves. subst (λ (x : List ℕ). UnitsTorn id m p.window (a.reads Target) x) (sym (target image leaves)) (torn_at_none _ (a.reads Target));
+  journal = journal;
 }
 
 pub all_since_are_near : {a b : Disk} → ((t j : List ℕ) → a.left a.moment t j → IsPair a t j) → AllSinceAreNear a b

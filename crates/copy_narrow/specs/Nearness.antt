@@ -61,6 +61,19 @@ EmptyWindowIsSettled disk = (id : JobId) (m : BlockMap) (source : Option (List �
     (p : Position) → IsWindowAlong id m source start w p disk → IsPositionOn id m (disk.reads Journal) w p →
     p.window ≡ [] → IsSettledAlong id m source start w p disk
 
+-- From what may have been written the copier comes to a window again: where it is along as the devices read, with
+-- these units in its window, or with both devices settled.
+abbrev pub OpenIsWindow : Disk → Type 0
+OpenIsWindow disk = (id : JobId) (m : BlockMap) (source : Option (List ℕ)) (start : Pair) (w : ℕ) (p next : Position)
+    (units t : List ℕ) → IsOpenAlong id m source start w p units t disk →
+    Along id m source start w next (disk.reads Target) (disk.reads Journal) →
+    ((k : ℕ) → Contains units k → Contains next.window k) → IsWindowAlong id m source start w next disk
+
+abbrev pub SettledIsWindow : Disk → Type 0
+SettledIsWindow disk = (id : JobId) (m : BlockMap) (source : Option (List ℕ)) (start : Pair) (w : ℕ) (p : Position) →
+    Along id m source start w p (disk.reads Target) (disk.reads Journal) → IsSettled disk Target →
+    IsSettled disk Journal → IsWindowAlong id m source start w p disk
+
 -- ---- since a stage
 -- each pair that a stop since may have left is narrow, and keeps what the start has
 abbrev pub StaysNear : JobId → BlockMap → List ℕ → Pair → ℕ → Disk → Disk → Type 0

@@ -1,5 +1,7 @@
-ghost use Rattle.copy_narrow.specs.Nearness.{AllSinceAreNear, ChecksAreNear, ClearingsAreNear, ClosingsAreNear, EmptyWindowIsSettled};
-ghost use Rattle.copy_narrow.specs.Nearness.{EndGivesMixed, LooksAreNear, WindowIsOpen, WindowTakesUnit, WritesAreNear, WritesStayOpen};
+ghost use Rattle.copy_narrow.specs.Nearness.{AllSinceAreNear, ChecksAreNear, ClearingsAreNear, ClosingsAreNear};
+ghost use Rattle.copy_narrow.specs.Nearness.{EmptyWindowIsSettled, EndGivesMixed, LooksAreNear, OpenIsWindow};
+ghost use Rattle.copy_narrow.specs.Nearness.{SettledIsWindow, WindowIsOpen, WindowTakesUnit, WritesAreNear};
+ghost use Rattle.copy_narrow.specs.Nearness.{WritesStayOpen};
 
 use bench::Bench;
 
@@ -39,6 +41,15 @@ pub fn windows_are_open<B: Bench>(bench: &B)
     ensures window { WindowIsOpen (B.disk bench.now) }
     ensures unit { WindowTakesUnit (B.disk bench.now) }
     ensures empty { EmptyWindowIsSettled (B.disk bench.now) }
+{}
+
+/// Nothing is done: the contract is the law of a copier that has come to its next position.
+///
+/// Where it is along there as the devices read, its window is open again: by the units that were written, which
+/// have joined it, or by devices that are settled.
+pub fn windows_go_on<B: Bench>(bench: &B)
+    ensures taken { OpenIsWindow (B.disk bench.now) }
+    ensures settled { SettledIsWindow (B.disk bench.now) }
 {}
 
 /// Nothing is done: the contract is the law of all pairs since a state of a bench, by which stages that follow one

@@ -5,5 +5,5 @@ mod laws;
 
 pub use laws::{
     ends_give_mixed, journal_stages_are_near, pairs_since_are_near, windows_are_near,
-    windows_are_open, writes_are_near,
+    windows_are_open, windows_go_on, writes_are_near,
 };
