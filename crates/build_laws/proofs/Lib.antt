@@ -1,0 +1,3 @@
+-- lemmas
+mod Afterwards
+mod Sources
