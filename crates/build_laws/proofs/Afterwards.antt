@@ -33,14 +33,15 @@ stays : (specs : List ImageSpec) (before after : Tree) (name : List ℕ) → Bui
     → IsFree name specs → after name ≡ before name
 stays [] before after name b free = ap (λ (file : Tree). file name) b
 stays (spec ∷ rest) before after name b free =
-    stays rest b.0 after name b.1.1 free.1 ∙ b.1.0.others name (λ same. free.0 (sym same))
+    stays rest b.0 after name b.2 free.1 ∙ b.1.others name (λ same. free.0 (sym same))
 
 not_among : (specs : List ImageSpec) (name : List ℕ) → (Contains (full_names specs) name → ⊥) → IsFree name specs
 not_among [] name none = tt
-not_among (spec ∷ rest) name none =
-    ((λ same. none (0, omega arith, same)),
-    not_among rest name (λ there.
-        let inside : there.0 < length (full_names rest) = there.1 in none (suc there.0, omega arith, there.2)))
+not_among (spec ∷ rest) name none = (
+  (λ same. none (0, omega arith, same)),
+  not_among rest name (λ there.
+      let inside : there.0 < length (full_names rest) = there.1 in none (suc there.0, omega arith, there.2)),
+)
 
 -- the file of an image is that of no later one
 own_free : (name : List ℕ) (rest : List ImageSpec)
@@ -66,27 +67,30 @@ all_stay : (specs : List ImageSpec) (before after : Tree) → BuildsTo specs bef
     → ((k : ℕ) (d : Source) → k < length sources → AllByRecursion (λ spec. (slice_index_or sources k d).file ≢ Some spec.full) specs)
     → SourcesStay before after sources
 all_stay specs before after b [] h = tt
-all_stay specs before after b (source ∷ sources) h =
-    (source_stays specs before after b source.file (h 0 source (omega arith)),
-    all_stay specs before after b sources (λ k d inside. h (suc k) d (omega arith)))
+all_stay specs before after b (source ∷ sources) h = (
+  source_stays specs before after b source.file (h 0 source (omega arith)),
+  all_stay specs before after b sources (λ k d inside. h (suc k) d (omega arith)),
+)
 
 -- those of the first image
 first_stay : (spec : ImageSpec) (rest : List ImageSpec) (before after : Tree) → AreInOrder (spec ∷ rest)
     → BuildsTo (spec ∷ rest) before after → SourcesStay before after spec.sources
 first_stay spec rest before after h b =
     all_stay (spec ∷ rest) before after b spec.sources
-    (λ k d inside. (h.own 0 spec (omega arith) k d inside,
-    from_all (λ (later : ImageSpec). (slice_index_or spec.sources k d).file ≢ Some later.full) rest
-    (λ j e within. h.later 0 (suc j) e (omega arith) (omega arith) k d inside)))
+    (λ k d inside. (
+      h.own 0 spec (omega arith) k d inside,
+      from_all (λ (later : ImageSpec). (slice_index_or spec.sources k d).file ≢ Some later.full) rest
+          (λ j e within. h.later 0 (suc j) e (omega arith) (omega arith) k d inside),
+    ))
 
 -- ---- images
 
 first_built : (spec : ImageSpec) (rest : List ImageSpec) (before after : Tree) → AreInOrder (spec ∷ rest)
     → BuildsTo (spec ∷ rest) before after → IsBuilt after spec
 first_built spec rest before after h b =
-    let first : Builds spec before b.0 = b.1.0 in
+    let first : Builds spec before b.0 = b.1 in
     let stay : SourcesStay before after spec.sources = first_stay spec rest before after h b in
-    let same : after spec.full ≡ b.0 spec.full = stays rest b.0 after spec.full b.1.1
+    let same : after spec.full ≡ b.0 spec.full = stays rest b.0 after spec.full b.2
     (own_free spec.full rest (λ k d inside. h.apart 0 (suc k) d (omega arith) (omega arith))) in
     record {
       kind = first.kind;
@@ -107,7 +111,7 @@ each_built : (specs : List ImageSpec) (before after : Tree) → AreInOrder specs
 each_built [] before after h b = All-nil (IsBuilt after)
 each_built (spec ∷ rest) before after h b =
     All-cons (IsBuilt after) spec rest (first_built spec rest before after h b)
-    (each_built rest b.0 after (rest_in_order spec rest h) b.1.1)
+    (each_built rest b.0 after (rest_in_order spec rest h) b.2)
 
 pub built_afterwards : (specs : List ImageSpec) (before after : Tree) → AreInOrder specs → BuildsTo specs before after
     → Built before specs after

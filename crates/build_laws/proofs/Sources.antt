@@ -118,6 +118,18 @@ parts_stay before now spec layout plan h =
     by_lengths spec layout (lengths_said before spec.sources) plan in
     subst (λ (l : Layout). PartsStay before now l.parts) (sym found.1) (parts_on before now spec.flash spec found.0 h)
 
+-- its file is the image's
+file_on : (flash : Option FlashSection) (spec : ImageSpec) (lens : List ℕ) → (layout_on flash spec lens).file ≡ spec.full
+file_on None spec lens = refl
+file_on (Some flash) spec lens = refl
+
+pub file_of_plan : (before : Tree) (spec : ImageSpec) (layout : Layout) → plan_said before spec ≡ Ok layout
+    → layout.file ≡ spec.full
+file_of_plan before spec layout plan =
+    let found : (lens : List ℕ) × (layout ≡ layout_by spec lens) =
+    by_lengths spec layout (lengths_said before spec.sources) plan in
+    ap (λ (l : Layout). l.file) found.1 ∙ file_on spec.flash spec found.0
+
 -- ---- the bytes
 
 bytes_same : (before now : Tree) (file : Option (List ℕ)) → NameStays before now file

@@ -26,7 +26,7 @@ pub record Builds (spec : ImageSpec) (before after : Tree) : Type 0 where
 -- each image is built from the files that those before it left
 abbrev pub BuildsTo : List ImageSpec → Tree → Tree → Type 0
 BuildsTo [] before after = after ≡ before
-BuildsTo (spec ∷ rest) before after = (middle : Tree) × (Builds spec before middle × BuildsTo rest middle after)
+BuildsTo (spec ∷ rest) before after = (middle : Tree) × Builds spec before middle × BuildsTo rest middle after
 
 -- ---- all images
 

@@ -3,4 +3,4 @@
 
 mod laws;
 
-pub use laws::built_afterwards;
+pub use laws::{built_afterwards, graphs_are_built};
