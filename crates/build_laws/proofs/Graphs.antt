@@ -1,14 +1,14 @@
 -- The images of a graph, in its order: each stands behind its children, and a file that is taken ready is that of none.
-use Rattle.std.specs.Prelude.{◌≡◌, ◌≢◌, ℕ, zero, suc, ◌+◌, ◌<◌, ◌≤◌, ◌⊎◌, nat_eq, Bool, cond, List, [], ◌∷◌, ◌++◌, All, Contains, Option, Some, None, IfSome, count_by, length, slice_get, slice_index_or, unwrap_or}
+use Rattle.std.specs.Prelude.{◌≡◌, ◌≢◌, ℕ, zero, suc, ◌+◌, ◌<◌, ◌≤◌, ◌⊎◌, nat_eq, Bool, true, false, cond, List, [], ◌∷◌, ◌++◌, All, Contains, Option, Some, None, IfSome, count_by, length, slice_get, slice_index_or, unwrap_or}
 use Rattle.std.specs.List.{cons_option, filter_map}
 use Rattle.std.specs.Option.{option_map}
 use Rattle.std.proofs.Common.{refl, ap, sym, subst, ◌∙◌, append_assoc, arith, inl, inr}
-use Rattle.std.proofs.lemmas.Bool.{cases_order, eq-eqb}
+use Rattle.std.proofs.lemmas.Bool.{cases_order, eq-eqb, eqb-true}
 use Rattle.std.proofs.lemmas.List.{length-map}
 use Rattle.std.proofs.lemmas.List.Elements.{All-cons, All-nil, Contains-get_or}
 use Rattle.std.proofs.lemmas.List.Kept.{AllPairs-cons}
 use Rattle.std.proofs.lemmas.List.Sums.{sum_by-append, sum_by-cons}
-use Rattle.std.proofs.lemmas.Option.{get_or_from_slice_get, slice_get-map, slice_get_within}
+use Rattle.std.proofs.lemmas.Option.{get_or_from_slice_get, slice_get-get_or, slice_get-map, slice_get_within}
 use Rattle.image_graph.specs.Children.{children_of, families_of}
 use Rattle.image_graph.specs.IsGraph.{IsGraph, IsMadeOf}
 use Rattle.image_graph.specs.declared.images.Graph.{Graph}
@@ -20,7 +20,7 @@ use Rattle.image_specs.specs.declared.specs.ImageSpec.{ImageSpec}
 use Rattle.image_specs.specs.declared.specs.Source.{Source}
 use Rattle.image_specs.specs.Specs.{full_names}
 use Rattle.outside.specs.Files.{Tree}
-use Rattle.build_laws.specs.Builds.{BuildsTo, Built}
+use Rattle.build_laws.specs.Builds.{BuildsTo, Built, IsBuilt}
 use Rattle.build_laws.specs.Order.{AreInOrder, IsWithout, ordered}
 use Rattle.build_laws.proofs.Afterwards.{built_afterwards}
 
@@ -230,3 +230,67 @@ pub graphs_are_built : (graph : Graph) (before after : Tree) → IsGraph graph �
     → Built before (ordered graph) after
 graphs_are_built graph before after sound builds =
     built_afterwards (ordered graph) before after (in_order graph sound) builds
+
+-- ---- all images
+
+found_counted : (x : ℕ) (xs : List ℕ) → 1 ≤ count_by (nat_eq x) xs → Contains xs x
+found_counted x [] h = let none : count_by (nat_eq x) [] ≡ 0 = refl in absurd (omega arith)
+found_counted x (y ∷ ys) h = by_head (nat_eq x y) refl (found_counted x ys)
+  where
+    by_head : (b : Bool) → nat_eq x y ≡ b → (1 ≤ count_by (nat_eq x) ys → Contains ys x) → Contains (y ∷ ys) x
+    by_head true e behind = (zero, omega arith, sym (eqb-true x y e))
+    by_head false e behind =
+        let less : count_by (nat_eq x) (y ∷ ys) ≡ 0 + count_by (nat_eq x) ys =
+        sum_by-cons (λ z. cond (nat_eq x z) 1 0) y ys ∙ ap (λ (t : Bool). cond t 1 0 + count_by (nat_eq x) ys) e in
+        contains_next y ys x (behind (omega arith))
+
+kept_spec : (o : Option ImageSpec) (specs : List ImageSpec) (spec : ImageSpec) → Contains specs spec
+    → Contains (cons_option o specs) spec
+kept_spec None specs spec h = h
+kept_spec (Some first) specs spec h = (suc h.0, omega (arith, h.1), h.2)
+
+ordered_at : (specs : List ImageSpec) (order : List ℕ) (image : ℕ) (spec : ImageSpec) (k : ℕ) → k < length order
+    → slice_index_or order k image ≡ image → slice_get specs image ≡ Some spec
+    → Contains (filter_map (slice_get specs) order) spec
+ordered_at specs [] image spec k below is there = absurd (omega arith)
+ordered_at specs (j ∷ rest) image spec zero below is there =
+    let behind : List ImageSpec = filter_map (slice_get specs) rest in
+    subst (λ (o : Option ImageSpec). Contains (cons_option o behind) spec) (sym (ap (slice_get specs) is ∙ there))
+    (zero, omega arith, refl)
+ordered_at specs (j ∷ rest) image spec (suc k) below is there =
+    kept_spec (slice_get specs j) (filter_map (slice_get specs) rest) spec
+    (ordered_at specs rest image spec k (omega arith) is there)
+
+named_among : (Q : List ℕ → Type 0) (specs : List ImageSpec) → All (λ spec. Q spec.full) specs → (name : List ℕ) (k : ℕ)
+    → k < length (full_names specs) → slice_index_or (full_names specs) k name ≡ name → Q name
+named_among Q [] h name k below is = absurd (omega arith)
+named_among Q (spec ∷ specs) h name zero below is = subst Q is (h 0 spec (omega arith))
+named_among Q (spec ∷ specs) h name (suc k) below is =
+    named_among Q specs (λ j d inside. h (suc j) d (omega arith)) name k (omega arith) is
+
+module _ (graph : Graph) (sound : IsGraph graph) (before after : Tree) (built : Built before (ordered graph) after) where
+  each_built : All (IsBuilt after) graph.specs
+  each_built k d inside =
+      let spec : ImageSpec = slice_index_or graph.specs k d in
+      let once : count_by (nat_eq k) graph.order ≡ 1 = stands_once graph sound k inside in
+      let stands : Contains graph.order k = found_counted k graph.order (omega arith) in
+      let there : Contains (ordered graph) spec =
+      ordered_at graph.specs graph.order k spec stands.0 stands.1 stands.2 (slice_get-get_or graph.specs k d inside) in
+      subst (IsBuilt after) there.2 (built.each there.0 spec there.1)
+
+  -- what is in order has no other names
+  no_others : (name : List ℕ) → Contains (full_names (ordered graph)) name → Contains (full_names graph.specs) name
+  no_others name there =
+      named_among (Contains (full_names graph.specs)) (ordered graph)
+      (among_rest graph sound (λ spec. Contains (full_names graph.specs) spec.full) graph.order
+      (λ j later among found. named_at graph sound j later found)) name there.0 there.1 there.2
+
+  pub all_built : Built before graph.specs after
+  all_built = record {
+    each = each_built;
+    others = λ name none. built.others name (λ there. none (no_others name there));
+  }
+
+pub none_left_out : (graph : Graph) (before after : Tree) → IsGraph graph → Built before (ordered graph) after
+    → Built before graph.specs after
+none_left_out graph before after sound built = all_built graph sound before after built

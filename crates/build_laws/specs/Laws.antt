@@ -22,3 +22,11 @@ GraphsAreBuilt =
     → IsGraph graph
     → BuildsTo (ordered graph) before after
     → Built before (ordered graph) after
+
+-- and no image of a graph is left out
+abbrev pub NoneLeftOut : Type 0
+NoneLeftOut =
+    (graph : Graph) (before after : Tree)
+    → IsGraph graph
+    → Built before (ordered graph) after
+    → Built before graph.specs after

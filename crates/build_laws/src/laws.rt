@@ -1,4 +1,4 @@
-ghost use Rattle.build_laws.specs.Laws.{BuiltAfterwards, GraphsAreBuilt};
+ghost use Rattle.build_laws.specs.Laws.{BuiltAfterwards, GraphsAreBuilt, NoneLeftOut};
 
 /// Images that are built one after another, each from the files that those before it left, have the
 /// bytes of their layouts by the files afterwards, where no two have the same file and none is made of
@@ -12,4 +12,10 @@ pub fn built_afterwards()
 /// nothing when it runs.
 pub fn graphs_are_built()
     ensures { GraphsAreBuilt }
+{}
+
+/// What is built in the order of a graph is all images of the graph, and nothing else. It does nothing
+/// when it runs.
+pub fn no_image_is_left_out()
+    ensures { NoneLeftOut }
 {}
