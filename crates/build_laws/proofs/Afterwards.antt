@@ -1,5 +1,6 @@
 -- What is built stands by the files afterwards, too: no later image has the file of an earlier one, or of its sources.
-use Rattle.std.specs.Prelude.{◌≡◌, ◌≢◌, ℕ, suc, ◌<◌, List, [], ◌∷◌, All, Contains, Option, Some, None, length, slice_index, slice_index_or, unwrap_or}
+use Rattle.std.specs.Prelude.{◌≡◌, ◌≢◌, ℕ, suc, ◌<◌, List, [], ◌∷◌, All, Contains, Option, Some, None, length}
+use Rattle.std.specs.Prelude.{slice_index, slice_index_or, unwrap_or}
 use Rattle.std.specs.List.{AllByRecursion}
 use Rattle.std.proofs.Common.{ap, sym, ◌∙◌, arith}
 use Rattle.std.proofs.lemmas.List.Elements.{All-cons, All-nil}
@@ -7,7 +8,7 @@ use Rattle.image_specs.specs.declared.specs.ImageSpec.{ImageSpec}
 use Rattle.image_specs.specs.declared.specs.Source.{Source}
 use Rattle.image_specs.specs.Specs.{full_names}
 use Rattle.outside.specs.Files.{Tree}
-use Rattle.build_laws.specs.Builds.{Builds, BuildsTo, Built, HasLayout, IsBuilt}
+use Rattle.build_laws.specs.Builds.{Builds, BuildsTo, Built, IsBuilt}
 use Rattle.build_laws.specs.Order.{AreInOrder}
 use Rattle.build_laws.proofs.Sources.{NameStays, SourcesStay, byte_same, plan_same}
 
@@ -64,7 +65,8 @@ source_stays specs before after b None h = tt
 source_stays specs before after b (Some name) h = stays specs before after name b (source_free specs name h)
 
 all_stay : (specs : List ImageSpec) (before after : Tree) → BuildsTo specs before after → (sources : List Source)
-    → ((k : ℕ) (d : Source) → k < length sources → AllByRecursion (λ spec. (slice_index_or sources k d).file ≢ Some spec.full) specs)
+    → ((k : ℕ) (d : Source) → k < length sources
+    → AllByRecursion (λ spec. (slice_index_or sources k d).file ≢ Some spec.full) specs)
     → SourcesStay before after sources
 all_stay specs before after b [] h = tt
 all_stay specs before after b (source ∷ sources) h = (

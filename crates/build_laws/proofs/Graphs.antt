@@ -1,5 +1,7 @@
 -- The images of a graph, in its order: each stands behind its children, and a file that is taken ready is that of none.
-use Rattle.std.specs.Prelude.{◌≡◌, ◌≢◌, ℕ, zero, suc, ◌+◌, ◌<◌, ◌≤◌, ◌⊎◌, nat_eq, Bool, true, false, cond, List, [], ◌∷◌, ◌++◌, All, Contains, Option, Some, None, IfSome, count_by, length, slice_get, slice_index_or, unwrap_or}
+use Rattle.std.specs.Prelude.{◌≡◌, ◌≢◌, ℕ, zero, suc, ◌+◌, ◌<◌, ◌≤◌, ◌⊎◌, nat_eq, Bool, true, false, cond, List, []}
+use Rattle.std.specs.Prelude.{◌∷◌, ◌++◌, All, Contains, Option, Some, None, IfSome, count_by, length, slice_get}
+use Rattle.std.specs.Prelude.{slice_index_or, unwrap_or}
 use Rattle.std.specs.List.{cons_option, filter_map}
 use Rattle.std.specs.Option.{option_map}
 use Rattle.std.proofs.Common.{refl, ap, sym, subst, ◌∙◌, append_assoc, arith, inl, inr}
@@ -86,7 +88,9 @@ names_apart name (spec ∷ rest) h =
 one_more : (spec : ImageSpec) (rest : List ImageSpec) → AreInOrder rest → All (λ later. spec.full ≢ later.full) rest
     → IsWithout spec.full spec → All (λ later. IsWithout later.full spec) rest → AreInOrder (spec ∷ rest)
 one_more spec rest behind apart own later = record {
-  apart = AllPairs-cons (λ (a b : List ℕ). a ≢ b) spec.full (full_names rest) (names_apart spec.full rest apart) behind.apart;
+  apart =
+      AllPairs-cons (λ (a b : List ℕ). a ≢ b) spec.full (full_names rest)
+      (names_apart spec.full rest apart) behind.apart;
   own = All-cons (λ (s : ImageSpec). IsWithout s.full s) spec rest own behind.own;
   later = AllPairs-cons (λ (s t : ImageSpec). IsWithout t.full s) spec rest later behind.later;
 }
@@ -128,6 +132,10 @@ module _ (graph : Graph) (sound : IsGraph graph) where
   stands_once image inside =
       sound.in_order.once image (subst (λ (n : ℕ). image < n) (sym (length-map specs children_of)) inside)
 
+  -- the image of that number has this file
+  abbrev HasNumber : Option (List ℕ) → ℕ → Type 0
+  HasNumber file child = (child < length specs) × (slice_get (full_names specs) child ≡ file)
+
   -- an image of this number is among those of the graph
   there_at : (image : ℕ) (spec : ImageSpec) → slice_get specs image ≡ Some spec → Contains specs spec
   there_at image spec there =
@@ -148,7 +156,8 @@ module _ (graph : Graph) (sound : IsGraph graph) where
   no_child front image rest split spec there child inside made among =
       let made_at : Contains (children (families_of specs) image) child =
       subst (λ (cs : List ℕ). Contains cs child) (sym (family_at image spec there)) made in
-      let all : All (Contains front) (children (families_of specs) image) = sound.in_order.behind front image rest split in
+      let all : All (Contains front) (children (families_of specs) image) =
+      sound.in_order.behind front image rest split in
       let before : Contains front child =
       subst (Contains front) made_at.2 (all made_at.0 child made_at.1) in
       twice child front (image ∷ rest) before among
@@ -171,8 +180,8 @@ module _ (graph : Graph) (sound : IsGraph graph) where
           ready_apart graph sound spec (slice_index_or spec.sources k d) later.full (there_at image spec there)
           (Contains-get_or spec.sources k d inside) none named (named_at j later found)
       by_child (Some child) is =
-          let made : (child < length specs) × (slice_get (full_names specs) child ≡ (slice_index_or spec.sources k d).file) =
-          subst (λ (o : Option ℕ). IfSome o (λ c. (c < length specs) × (slice_get (full_names specs) c ≡ (slice_index_or spec.sources k d).file)))
+          let made : HasNumber (slice_index_or spec.sources k d).file child =
+          subst (λ (o : Option ℕ). IfSome o (HasNumber (slice_index_or spec.sources k d).file))
           is (all_made k d inside) in
           let same : child ≡ j =
           same_number (full_names specs) sound.fulls child j later.full (made.1 ∙ named) (name_at j later found) in
@@ -221,7 +230,8 @@ module _ (graph : Graph) (sound : IsGraph graph) where
           (among_rest (λ later. spec.full ≢ later.full) rest (two_files front image rest split spec there))
           (without front image rest split spec there image spec (contains_here image rest) there)
           (among_rest (λ later. IsWithout later.full spec) rest
-          (λ j later among found. without front image rest split spec there j later (contains_next image rest j among) found))
+          (λ j later among found.
+          without front image rest split spec there j later (contains_next image rest j among) found))
 
   pub in_order : AreInOrder (ordered graph)
   in_order = from_place [] graph.order refl
@@ -268,15 +278,15 @@ named_among Q (spec ∷ specs) h name zero below is = subst Q is (h 0 spec (omeg
 named_among Q (spec ∷ specs) h name (suc k) below is =
     named_among Q specs (λ j d inside. h (suc j) d (omega arith)) name k (omega arith) is
 
-module _ (graph : Graph) (sound : IsGraph graph) (before after : Tree) (built : Built before (ordered graph) after) where
-  each_built : All (IsBuilt after) graph.specs
+module _ (graph : Graph) (sound : IsGraph graph) (old new : Tree) (built : Built old (ordered graph) new) where
+  each_built : All (IsBuilt new) graph.specs
   each_built k d inside =
       let spec : ImageSpec = slice_index_or graph.specs k d in
       let once : count_by (nat_eq k) graph.order ≡ 1 = stands_once graph sound k inside in
       let stands : Contains graph.order k = found_counted k graph.order (omega arith) in
       let there : Contains (ordered graph) spec =
       ordered_at graph.specs graph.order k spec stands.0 stands.1 stands.2 (slice_get-get_or graph.specs k d inside) in
-      subst (IsBuilt after) there.2 (built.each there.0 spec there.1)
+      subst (IsBuilt new) there.2 (built.each there.0 spec there.1)
 
   -- what is in order has no other names
   no_others : (name : List ℕ) → Contains (full_names (ordered graph)) name → Contains (full_names graph.specs) name
@@ -285,7 +295,7 @@ module _ (graph : Graph) (sound : IsGraph graph) (before after : Tree) (built : 
       (among_rest graph sound (λ spec. Contains (full_names graph.specs) spec.full) graph.order
       (λ j later among found. named_at graph sound j later found)) name there.0 there.1 there.2
 
-  pub all_built : Built before graph.specs after
+  pub all_built : Built old graph.specs new
   all_built = record {
     each = each_built;
     others = λ name none. built.others name (λ there. none (no_others name there));

@@ -1,5 +1,6 @@
 -- Where the files that an image is made of stay as they are, its layout is the same, and so are the bytes of it.
-use Rattle.std.specs.Prelude.{◌≡◌, ℕ, zero, suc, ◌+◌, ◌<◌, Bool, cond, List, [], ◌∷◌, Option, Some, None, is_none, Result, Ok, Err, length, map, unwrap_or}
+use Rattle.std.specs.Prelude.{◌≡◌, ℕ, zero, suc, ◌+◌, ◌<◌, Bool, cond, List, [], ◌∷◌, Option, Some, None, is_none}
+use Rattle.std.specs.Prelude.{Result, Ok, Err, length, unwrap_or}
 use Rattle.std.specs.List.{AllByRecursion, position_from}
 use Rattle.std.proofs.Common.{refl, ap, sym, subst, ◌∙◌, arith}
 use Rattle.std.proofs.lemmas.Iterator.Adapters.{position_from-zero}
@@ -14,8 +15,10 @@ use Rattle.image_layout.specs.Layout.{byte_at, source_bytes}
 use Rattle.image_layout.specs.declared.layout.Layout.{Layout}
 use Rattle.image_layout.specs.declared.layout.Placed.{Placed}
 use Rattle.image_parts.specs.Files.{part_of}
-use Rattle.image_plan.specs.Lengths.{first_absent, is_absent, is_lacking, length_of, length_under, lengths_of, lengths_said, unless_absent}
-use Rattle.image_plan.specs.Plans.{geometry_of, layout_by, layout_on, placed_said, plan_said, refusal_by, unless_refused}
+use Rattle.image_plan.specs.Lengths.{first_absent, is_absent, is_lacking, length_of, length_under, lengths_of}
+use Rattle.image_plan.specs.Lengths.{lengths_said, unless_absent}
+use Rattle.image_plan.specs.Plans.{geometry_of, layout_by, layout_on, placed_said, plan_said, refusal_by}
+use Rattle.image_plan.specs.Plans.{unless_refused}
 use Rattle.image_plan.specs.declared.faults.PlanFault.{PlanFault}
 use Rattle.image_plan.specs.declared.faults.PlanFault.TheVariants.{Place}
 use Rattle.image_specs.specs.declared.specs.ImageSpec.{ImageSpec}
@@ -40,11 +43,13 @@ PartsStay before now parts = AllByRecursion (λ p. NameStays before now p.source
 
 -- ---- the layout
 
-lacking_same : (before now : Tree) (file : Option (List ℕ)) → NameStays before now file → is_lacking now file ≡ is_lacking before file
+lacking_same : (before now : Tree) (file : Option (List ℕ)) → NameStays before now file
+    → is_lacking now file ≡ is_lacking before file
 lacking_same before now None h = refl
 lacking_same before now (Some name) h = ap (λ (o : Option (List ℕ)). is_none o) h
 
-length_same : (before now : Tree) (file : Option (List ℕ)) → NameStays before now file → length_under now file ≡ length_under before file
+length_same : (before now : Tree) (file : Option (List ℕ)) → NameStays before now file
+    → length_under now file ≡ length_under before file
 length_same before now None h = refl
 length_same before now (Some name) h = ap (λ (o : Option (List ℕ)). length (unwrap_or o [])) h
 
@@ -52,7 +57,8 @@ absent_same : (before now : Tree) (sources : List Source) (k : ℕ) → SourcesS
     → position_from (is_absent now) k sources ≡ position_from (is_absent before) k sources
 absent_same before now [] k h = refl
 absent_same before now (source ∷ rest) k h =
-    ap (λ (b : Bool). cond b (Some k) (position_from (is_absent now) (k + 1) rest)) (lacking_same before now source.file h.0)
+    ap (λ (b : Bool). cond b (Some k) (position_from (is_absent now) (k + 1) rest))
+    (lacking_same before now source.file h.0)
     ∙ ap (λ (o : Option ℕ). cond (is_absent before source) (Some k) o) (absent_same before now rest (k + 1) h.1)
 
 lengths_same : (before now : Tree) (sources : List Source) → SourcesStay before now sources
@@ -84,8 +90,8 @@ disk_parts before now (name ∷ names) (source ∷ sources) (whole ∷ wholes) [
 disk_parts before now (name ∷ names) (source ∷ sources) (whole ∷ wholes) (s ∷ ss) h =
     (h.0, disk_parts before now names sources wholes ss h.1)
 
-flash_parts : (before now : Tree) (parts : List PartitionSection) (sources : List Source) (lens : List ℕ) (ss : List Span)
-    → SourcesStay before now sources → PartsStay before now (flash_parts_from parts sources lens ss)
+flash_parts : (before now : Tree) (parts : List PartitionSection) (sources : List Source) (lens : List ℕ)
+    (ss : List Span) → SourcesStay before now sources → PartsStay before now (flash_parts_from parts sources lens ss)
 flash_parts before now [] sources lens ss h = tt
 flash_parts before now (part ∷ parts) [] lens ss h = tt
 flash_parts before now (part ∷ parts) (source ∷ sources) [] ss h = tt
@@ -119,7 +125,8 @@ parts_stay before now spec layout plan h =
     subst (λ (l : Layout). PartsStay before now l.parts) (sym found.1) (parts_on before now spec.flash spec found.0 h)
 
 -- its file is the image's
-file_on : (flash : Option FlashSection) (spec : ImageSpec) (lens : List ℕ) → (layout_on flash spec lens).file ≡ spec.full
+file_on : (flash : Option FlashSection) (spec : ImageSpec) (lens : List ℕ)
+    → (layout_on flash spec lens).file ≡ spec.full
 file_on None spec lens = refl
 file_on (Some flash) spec lens = refl
 
@@ -144,7 +151,8 @@ each_same before now (p ∷ parts) h zero inside = bytes_same before now p.sourc
 each_same before now (p ∷ parts) h (suc k) inside = each_same before now parts h.1 k (omega arith)
 
 pub byte_same : (before now : Tree) (spec : ImageSpec) (layout : Layout) → plan_said before spec ≡ Ok layout
-    → SourcesStay before now spec.sources → (o : ℕ) → byte_at layout (bytes_of before) o ≡ byte_at layout (bytes_of now) o
+    → SourcesStay before now spec.sources → (o : ℕ)
+    → byte_at layout (bytes_of before) o ≡ byte_at layout (bytes_of now) o
 byte_same before now spec layout plan h o =
     byte_at_same layout (bytes_of before) (bytes_of now) o
     (each_same before now layout.parts (parts_stay before now spec layout plan h))
