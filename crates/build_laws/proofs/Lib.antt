@@ -1,0 +1,5 @@
+-- lemmas
+mod Afterwards
+mod Graphs
+mod Sources
+pub mod Steps

@@ -1,0 +1,4 @@
+-- definitions that contracts cite
+pub mod Builds
+pub mod Laws
+pub mod Order
