@@ -1,2 +1,3 @@
 -- lemmas
 pub mod NearLemmas
+pub mod WrittenLemmas

@@ -7,3 +7,4 @@ pub use Rattle.copy_states.specs.Starts
 pub use Rattle.copy_laws.specs.Narrowing
 pub use Rattle.copy_stages.specs.Stages
 pub mod Nearness
+pub mod Written

@@ -2,6 +2,7 @@ ghost use Rattle.copy_narrow.specs.Nearness.{AllSinceAreNear, ChecksAreNear, Cle
 ghost use Rattle.copy_narrow.specs.Nearness.{EmptyWindowIsSettled, EndGivesMixed, LooksAreNear, OpenIsWindow};
 ghost use Rattle.copy_narrow.specs.Nearness.{SettledIsWindow, WindowIsOpen, WindowTakesUnit, WritesAreNear};
 ghost use Rattle.copy_narrow.specs.Nearness.{WritesStayOpen};
+ghost use Rattle.copy_narrow.specs.Written.{WritesAreWritten};
 
 use bench::Bench;
 
@@ -27,10 +28,11 @@ pub fn windows_are_near<B: Bench>(before: &B, after: &B)
 /// Nothing is done: the contract is the law of the writes of a unit, between two states of a bench.
 ///
 /// Any bytes of an open unit stay near to the start, and the copier may go on from there: write again, or close
-/// the window.
+/// the window. A write that is Ok of the source's bytes is what keeps the copier on its way.
 pub fn writes_are_near<B: Bench>(before: &B, after: &B)
     ensures write { WritesAreNear (B.disk before.now) (B.disk after.now) }
     ensures goes_on { WritesStayOpen (B.disk before.now) (B.disk after.now) }
+    ensures written { WritesAreWritten (B.disk before.now) (B.disk after.now) }
 {}
 
 /// Nothing is done: the contract is the law of a copier that is along as the devices read.
