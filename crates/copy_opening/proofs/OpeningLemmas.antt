@@ -1,17 +1,24 @@
 -- The opening of a copy, of what its calls did to the devices, and what that keeps.
-use Rattle.std.proofs.Common.{◌≡◌, ℕ, ◌+◌, ◌<◌, ◌≤◌, List, length, take, drop, replicate, slice_index, inl, inr, ⊎_elim, ap, sym, ◌∙◌, arith}
+use Rattle.std.proofs.Common.{◌≡◌, ℕ, ◌+◌, ◌<◌, ◌≤◌, List, length, take, drop, replicate, slice_index, inl, inr, ⊎_elim, ap, sym, [], ◌∙◌, arith}
 use Rattle.std.proofs.lemmas.List.{ext_get_or, get_or-drop, get_or-replicate, get_or-take, length-drop, length-replicate, length-take-le}
 use Rattle.bench.specs.declared.Dev.{Dev}
 use Rattle.bench.specs.declared.Dev.TheVariants.{Target, Journal}
 use Rattle.bench.specs.Disk.{Disk, Looked, Moves}
 use Rattle.bench.proofs.DiskLemmas.{journal_runs, looked_runs, runs_so, runs_then}
+use Rattle.block_map.specs.Maps.{part_of}
+use Rattle.block_map.specs.declared.maps.BlockMap.{BlockMap}
+use Rattle.journal_format.specs.Journals.{IsHeld}
 use Rattle.journal_format.specs.declared.jobs.JobId.{JobId}
 use Rattle.copy_states.specs.Jobs.{IsOwn}
+use Rattle.copy_states.specs.Narrow.{IsInStep, Narrow, ReadsAsAtStart}
 use Rattle.copy_states.specs.Standing.{Since}
+use Rattle.copy_states.specs.Starts.{Pair}
+use Rattle.copy_laws.specs.Opening.{SameMarks}
+use Rattle.copy_laws.proofs.Opening.{new_has_same_marks}
 use Rattle.copy_laws.proofs.Events.{new_stands, unheld_stands}
 use Rattle.copy_journal.specs.Events.{AreMarks, IsNew, IsOpening}
 use Rattle.copy_journal.specs.declared.marks.Marks.{Marks}
-use Rattle.copy_opening.specs.Opening.{AreZeros, IsOpeningPair, KeepsOwn, OpeningKeepsSince, Opens}
+use Rattle.copy_opening.specs.Openings.{AreZeros, IsOpeningPair, KeepsOwn, OpeningIsNarrow, OpeningKeepsSince, Opens, start_of}
 
 -- ---- the devices
 pub looked_opens : (id : JobId) {a b : Disk} → Looked a b → Opens id a b
@@ -48,7 +55,31 @@ zeros_are_marks id w j marks new zeros =
       window = zeros.window ∙ sym new.window;
     }
 
+-- a journal that wasn't held, and one that was opened anew
+pub new_same_marks : (id : JobId) (w : ℕ) (old new : List ℕ) → ¬ IsHeld old → IsNew id w new → SameMarks id old new
+new_same_marks id w old new was now =
+    new_has_same_marks id old new was (λ i h mark. let zero = now.marks i h in omega (arith, zero, mark))
+
 -- ---- what is kept of each pair
+-- where the target is as at the start a pair is narrow
+as_at_start : (id : JobId) (m : BlockMap) (s : List ℕ) (start : Pair) (w : ℕ) (t j : List ℕ) → t ≡ start.target → Narrow id m s start w t j
+as_at_start id m s start w t j same =
+    let reads : (k : ℕ) → ReadsAsAtStart id m start t k = λ k u is. ap (part_of u) same in
+    let step : IsInStep id m start w t j = record {
+      from = 0;
+      to = 0;
+      window = [];
+      few = omega arith;
+      between = λ k idle low high. absurd (omega (arith, high));
+      before = λ k idle low. absurd (omega (arith, low));
+      behind = λ k idle past. reads k;
+    } in
+    record { others = λ k below busy. reads k; place = inl step }
+
+pub opening_is_narrow : (id : JobId) {a b : Disk} → Opens id a b → OpeningIsNarrow id a b
+opening_is_narrow id {a} {b} opens m s w settled =
+    runs_so opens.pairs (λ t j pair. as_at_start id m s (start_of a) w t j (settled t pair.0))
+
 pub opening_keeps_own : (id : JobId) {a b : Disk} → Opens id a b → KeepsOwn id a b
 opening_keeps_own id {a} {b} opens each =
     runs_so opens.pairs by_pair
