@@ -1,15 +1,16 @@
 -- The opening of a copy, of what its calls did to the devices, and what that keeps.
-use Rattle.std.proofs.Common.{◌≡◌, ℕ, ◌+◌, ◌<◌, ◌≤◌, List, length, take, drop, replicate, slice_index, inl, inr, ⊎_elim, ap, sym, [], ◌∙◌, arith}
+use Rattle.std.proofs.Common.{◌≡◌, ℕ, ◌+◌, ◌<◌, ◌≤◌, List, length, take, drop, replicate, slice_index, inl, inr, ⊎_elim, ap, subst, sym, [], ◌∙◌, arith}
 use Rattle.std.proofs.lemmas.List.{ext_get_or, get_or-drop, get_or-replicate, get_or-take, length-drop, length-replicate, length-take-le}
 use Rattle.bench.specs.declared.Dev.{Dev}
 use Rattle.bench.specs.declared.Dev.TheVariants.{Target, Journal}
 use Rattle.bench.specs.Disk.{Disk, Looked, Moves}
-use Rattle.bench.proofs.DiskLemmas.{journal_runs, looked_runs, runs_so, runs_then}
+use Rattle.bench.proofs.DiskLemmas.{journal_runs, looked_runs, looked_then, runs_so, runs_then}
 use Rattle.block_map.specs.Maps.{part_of}
 use Rattle.block_map.specs.declared.maps.BlockMap.{BlockMap}
 use Rattle.journal_format.specs.Journals.{IsHeld}
 use Rattle.journal_format.specs.declared.jobs.JobId.{JobId}
-use Rattle.copy_states.specs.Jobs.{IsOwn}
+use Rattle.copy_states.specs.Jobs.{IsChecked, IsOwn, IsRecorded}
+use Rattle.copy_states.specs.Narrow as narrow
 use Rattle.copy_states.specs.Narrow.{IsInStep, Narrow, ReadsAsAtStart}
 use Rattle.copy_states.specs.Standing.{Since}
 use Rattle.copy_states.specs.Starts.{Pair}
@@ -18,7 +19,8 @@ use Rattle.copy_laws.proofs.Opening.{new_has_same_marks}
 use Rattle.copy_laws.proofs.Events.{new_stands, unheld_stands}
 use Rattle.copy_journal.specs.Events.{AreMarks, IsNew, IsOpening}
 use Rattle.copy_journal.specs.declared.marks.Marks.{Marks}
-use Rattle.copy_opening.specs.Openings.{AreZeros, IsOpeningPair, KeepsOwn, OpeningIsNarrow, OpeningKeepsSince, Opens, start_of}
+use Rattle.copy_opening.proofs.HeldOrNot.{held_or_not}
+use Rattle.copy_opening.specs.Openings.{AreZeros, IsOpeningPair, KeepsOwn, OpeningIsNarrow, OpeningKeepsMarks, OpeningKeepsSince, Opens, start_of}
 
 -- ---- the devices
 pub looked_opens : (id : JobId) {a b : Disk} → Looked a b → Opens id a b
@@ -79,6 +81,30 @@ as_at_start id m s start w t j same =
 pub opening_is_narrow : (id : JobId) {a b : Disk} → Opens id a b → OpeningIsNarrow id a b
 opening_is_narrow id {a} {b} opens m s w settled =
     runs_so opens.pairs (λ t j pair. as_at_start id m s (start_of a) w t j (settled t pair.0))
+
+-- where the journal is as at the start, or wasn't held there, a pair keeps what was recorded
+as_recorded : (id : JobId) (m : BlockMap) (s : List ℕ) (start : Pair) (t j : List ℕ) → j ≡ start.journal → narrow.Keeps id m s start t j
+as_recorded id m s start t j same = record {
+  units = λ k below was. inl (subst (λ (x : List ℕ). IsRecorded id k x) (sym same) was);
+  ranges = λ r below was. subst (λ (x : List ℕ). IsChecked id r x) (sym same) was;
+}
+
+none_recorded : (id : JobId) (m : BlockMap) (s : List ℕ) (start : Pair) (t j : List ℕ) → ¬ IsHeld start.journal → narrow.Keeps id m s start t j
+none_recorded id m s start t j unheld = record {
+  units = λ k below was. absurd (unheld was.opened.held);
+  ranges = λ r below was. absurd (unheld was.opened.held);
+}
+
+-- a journal that is held is left as it is, behind a look
+pub kept_then : {a b c : Disk} → Looked a b → (IsHeld (b.reads Journal) → Looked b c) → IsHeld (a.reads Journal) → Looked a c
+kept_then {a} {b} {c} looked kept held =
+    looked_then looked (kept (subst (λ (f : Dev → List ℕ). IsHeld (f Journal)) (sym looked.reads) held))
+
+pub opening_keeps_marks : (id : JobId) {a b : Disk} → (IsHeld (a.reads Journal) → Looked a b) → Opens id a b → OpeningKeepsMarks id a b
+opening_keeps_marks id {a} {b} kept opens m s settled = elim (held_or_not (a.reads Journal)) [
+  | inl held ↦ looked_runs (kept held) (λ t j pair. as_recorded id m s (start_of a) t j (settled j pair.1))
+  | inr unheld ↦ runs_so opens.pairs (λ t j pair. none_recorded id m s (start_of a) t j unheld)
+]
 
 pub opening_keeps_own : (id : JobId) {a b : Disk} → Opens id a b → KeepsOwn id a b
 opening_keeps_own id {a} {b} opens each =

@@ -6,6 +6,7 @@ use Rattle.block_map.specs.declared.maps.BlockMap.{BlockMap}
 use Rattle.journal_format.specs.Journals.{IsHeld}
 use Rattle.journal_format.specs.declared.jobs.JobId.{JobId}
 use Rattle.copy_states.specs.Jobs.{IsJobOf, IsOwn}
+use Rattle.copy_states.specs.Narrow as narrow
 use Rattle.copy_states.specs.Narrow.{Narrow}
 use Rattle.copy_states.specs.Standing.{Since}
 use Rattle.copy_states.specs.Starts.{Pair}
@@ -49,3 +50,8 @@ start_of disk = record { target = disk.reads Target; journal = disk.reads Journa
 abbrev pub OpeningIsNarrow : JobId → Disk → Disk → Type 0
 OpeningIsNarrow id old new = (m : BlockMap) (s : List ℕ) (w : ℕ) → IsSettled old Target →
     Runs old new (Narrow id m s (start_of old) w)
+
+-- where the journal is settled, each pair since keeps what is recorded and checked there
+abbrev pub OpeningKeepsMarks : JobId → Disk → Disk → Type 0
+OpeningKeepsMarks id old new = (m : BlockMap) (s : List ℕ) → IsSettled old Journal →
+    Runs old new (narrow.Keeps id m s (start_of old))

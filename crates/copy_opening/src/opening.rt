@@ -7,7 +7,7 @@ ghost use Rattle.copy_states.specs.Jobs.{IsJobOf};
 ghost use Rattle.copy_laws.specs.Opening.{SameMarks};
 ghost use Rattle.copy_journal.specs.Events.{AreMarks, IsOpening};
 ghost use Rattle.copy_opening.specs.Faults.{IsJournalFault, IsOpenFault, IsTargetFault, IsUntouched, IsUnwritten};
-ghost use Rattle.copy_opening.specs.Openings.{AreZeros, IsOpenedAnew, KeepsOwn, OpeningIsNarrow, OpeningKeepsSince, Opens};
+ghost use Rattle.copy_opening.specs.Openings.{AreZeros, IsOpenedAnew, KeepsOwn, OpeningIsNarrow, OpeningKeepsMarks, OpeningKeepsSince, Opens};
 ghost use Rattle.copy_opening.specs.declared.opening.Mode.{Mode};
 
 use crate::OpenFault;
@@ -44,6 +44,7 @@ pub fn open_copy<B: Bench>(
     ensures opens { B.told → Opens id.now (B.disk bench.old) (B.disk bench.new) }
     ensures own { B.told → KeepsOwn id.now (B.disk bench.old) (B.disk bench.new) }
     ensures narrow { B.told → OpeningIsNarrow id.now (B.disk bench.old) (B.disk bench.new) }
+    ensures keeps { B.told → OpeningKeepsMarks id.now (B.disk bench.old) (B.disk bench.new) }
     ensures since { B.told → OpeningKeepsSince id.now (B.disk bench.old) (B.disk bench.new) }
     ensures again { mode ≡ Mode.Again → Looked (B.disk bench.old) (B.disk bench.new) }
     ensures kept { B.told → IsHeld ((B.disk bench.old).reads Dev.Journal) → Looked (B.disk bench.old) (B.disk bench.new) }
