@@ -13,7 +13,8 @@ long_2 : length magic_2 ≡ 8
 unfolding magic_2
 long_2 = refl
 
-magic_or_not : (r : Bool) (j magic : List ℕ) → length magic ≡ 8 → r ≡ starts_with nat_eq j magic → (take 8 j ≡ magic) ⊎ (¬ (take 8 j ≡ magic))
+magic_or_not : (r : Bool) (j magic : List ℕ) → length magic ≡ 8 → r ≡ starts_with nat_eq j magic →
+    (take 8 j ≡ magic) ⊎ (¬ (take 8 j ≡ magic))
 magic_or_not true j magic long e = inl ((begins true j magic long e).0 refl)
 magic_or_not false j magic long e = inr (λ same. false≢true ((begins false j magic long e).1 same))
 
