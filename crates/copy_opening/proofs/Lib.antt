@@ -1,2 +1,3 @@
 -- lemmas
+mod HeldOrNot
 pub mod OpeningLemmas

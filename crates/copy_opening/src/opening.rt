@@ -2,11 +2,12 @@ ghost use Rattle.std.specs.Prelude.{◌≡◌, ◌+◌, ◌*◌, ◌≤◌, IfEr
 ghost use Rattle.bench.specs.Disk.{IsSettled, Looked, Moves};
 ghost use Rattle.bench.specs.Meter.{Costs, CostsOn, IsAttached, SameNames};
 ghost use Rattle.journal_format.specs.JobFields.{IsWithinLimits};
-ghost use Rattle.journal_format.specs.Journals.{IsOpenedFor, IsWindow};
+ghost use Rattle.journal_format.specs.Journals.{IsHeld, IsOpenedFor, IsWindow};
 ghost use Rattle.copy_states.specs.Jobs.{IsJobOf};
+ghost use Rattle.copy_laws.specs.Opening.{SameMarks};
 ghost use Rattle.copy_journal.specs.Events.{AreMarks, IsOpening};
 ghost use Rattle.copy_opening.specs.Faults.{IsJournalFault, IsOpenFault, IsTargetFault, IsUntouched, IsUnwritten};
-ghost use Rattle.copy_opening.specs.Opening.{AreZeros, IsOpenedAnew, KeepsOwn, OpeningKeepsSince, Opens};
+ghost use Rattle.copy_opening.specs.Openings.{AreZeros, IsOpenedAnew, KeepsOwn, OpeningIsNarrow, OpeningKeepsMarks, OpeningKeepsSince, Opens};
 ghost use Rattle.copy_opening.specs.declared.opening.Mode.{Mode};
 
 use crate::OpenFault;
@@ -42,13 +43,17 @@ pub fn open_copy<B: Bench>(
     requires window { mode ≡ Mode.Fresh → IsWindow window }
     ensures opens { B.told → Opens id.now (B.disk bench.old) (B.disk bench.new) }
     ensures own { B.told → KeepsOwn id.now (B.disk bench.old) (B.disk bench.new) }
+    ensures narrow { B.told → OpeningIsNarrow id.now (B.disk bench.old) (B.disk bench.new) }
+    ensures keeps { B.told → OpeningKeepsMarks id.now (B.disk bench.old) (B.disk bench.new) }
     ensures since { B.told → OpeningKeepsSince id.now (B.disk bench.old) (B.disk bench.new) }
     ensures again { mode ≡ Mode.Again → Looked (B.disk bench.old) (B.disk bench.new) }
+    ensures kept { B.told → IsHeld ((B.disk bench.old).reads Dev.Journal) → Looked (B.disk bench.old) (B.disk bench.new) }
     ensures unwritten { B.told → IfErr result (λ fault. IsUnwritten fault → Looked (B.disk bench.old) (B.disk bench.new)) }
     ensures fits { B.told → OnOk result (map.now.size ≤ length ((B.disk bench.old).reads Dev.Target)) }
     ensures opened { B.told → OnOk result (IsOpenedFor id.now ((B.disk bench.new).reads Dev.Journal)) }
     ensures marked { B.told → IfOk result (AreMarks id.now ((B.disk bench.new).reads Dev.Journal)) }
     ensures window { mode ≡ Mode.Fresh → IfOk result (AreZeros id.now window) }
+    ensures same_marks { B.told → OnOk result (SameMarks id.now ((B.disk bench.old).reads Dev.Journal) ((B.disk bench.new).reads Dev.Journal)) }
     ensures new { B.told → mode ≡ Mode.Fresh → OnOk result (IsOpenedAnew id.now window ((B.disk bench.old).reads Dev.Journal) ((B.disk bench.new).reads Dev.Journal)) }
     ensures settled_target { B.told → OnOk result (IsSettled (B.disk bench.new) Dev.Target) }
     ensures settled { OnOk result (IsSettled (B.disk bench.new) Dev.Journal) }
@@ -95,10 +100,12 @@ fn open_journal<B: Bench>(
     requires window { mode ≡ Mode.Fresh → IsWindow window }
     ensures moves { B.told → Moves (IsOpening id.now (B.disk bench.old)) (B.disk bench.old) (B.disk bench.new) }
     ensures again { mode ≡ Mode.Again → Looked (B.disk bench.old) (B.disk bench.new) }
+    ensures kept { B.told → IsHeld ((B.disk bench.old).reads Dev.Journal) → Looked (B.disk bench.old) (B.disk bench.new) }
     ensures unwritten { B.told → IfErr result (λ fault. IsUntouched fault → Looked (B.disk bench.old) (B.disk bench.new)) }
     ensures opened { B.told → OnOk result (IsOpenedFor id.now ((B.disk bench.new).reads Dev.Journal)) }
     ensures marked { B.told → IfOk result (AreMarks id.now ((B.disk bench.new).reads Dev.Journal)) }
     ensures window { mode ≡ Mode.Fresh → IfOk result (AreZeros id.now window) }
+    ensures same_marks { B.told → OnOk result (SameMarks id.now ((B.disk bench.old).reads Dev.Journal) ((B.disk bench.new).reads Dev.Journal)) }
     ensures new { B.told → mode ≡ Mode.Fresh → OnOk result (IsOpenedAnew id.now window ((B.disk bench.old).reads Dev.Journal) ((B.disk bench.new).reads Dev.Journal)) }
     ensures settled { OnOk result (IsSettled (B.disk bench.new) Dev.Journal) }
     ensures cause { IfErr result (IsJournalFault B.told mode id.now ((B.disk bench.old).reads Dev.Journal) (B.meter bench.old) (B.meter bench.new)) }

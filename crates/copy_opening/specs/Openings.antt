@@ -1,12 +1,15 @@
 -- What the opening of a copy does to the two devices.
 use Rattle.std.specs.Prelude.{◌≡◌, ℕ, List, Option, replicate}
-use Rattle.bench.specs.declared.Dev.TheVariants.{Target}
-use Rattle.bench.specs.Disk.{Disk, Keeps, Runs}
+use Rattle.bench.specs.declared.Dev.TheVariants.{Target, Journal}
+use Rattle.bench.specs.Disk.{Disk, IsSettled, Keeps, Runs}
 use Rattle.block_map.specs.declared.maps.BlockMap.{BlockMap}
 use Rattle.journal_format.specs.Journals.{IsHeld}
 use Rattle.journal_format.specs.declared.jobs.JobId.{JobId}
 use Rattle.copy_states.specs.Jobs.{IsJobOf, IsOwn}
+use Rattle.copy_states.specs.Narrow as narrow
+use Rattle.copy_states.specs.Narrow.{Narrow}
 use Rattle.copy_states.specs.Standing.{Since}
+use Rattle.copy_states.specs.Starts.{Pair}
 use Rattle.copy_journal.specs.Events.{EachImage, IsNew, IsOpening}
 use Rattle.copy_journal.specs.declared.marks.Marks.{Marks}
 
@@ -38,3 +41,17 @@ KeepsOwn id old new = EachImage old (IsOwn id) → Runs old new (λ t j. IsOwn i
 abbrev pub OpeningKeepsSince : JobId → Disk → Disk → Type 0
 OpeningKeepsSince id old new = (m : BlockMap) (source : Option (List ℕ)) (before : List ℕ) → IsJobOf id m →
     Keeps (Since id m source before) old new
+
+-- what target and journal read
+abbrev pub start_of : Disk → Pair
+start_of disk = record { target = disk.reads Target; journal = disk.reads Journal }
+
+-- where the target is settled, each pair since is narrow for that start, with any window
+abbrev pub OpeningIsNarrow : JobId → Disk → Disk → Type 0
+OpeningIsNarrow id old new = (m : BlockMap) (s : List ℕ) (w : ℕ) → IsSettled old Target →
+    Runs old new (Narrow id m s (start_of old) w)
+
+-- where the journal is settled, each pair since keeps what is recorded and checked there
+abbrev pub OpeningKeepsMarks : JobId → Disk → Disk → Type 0
+OpeningKeepsMarks id old new = (m : BlockMap) (s : List ℕ) → IsSettled old Journal →
+    Runs old new (narrow.Keeps id m s (start_of old))
