@@ -1,7 +1,7 @@
 //! The lines of a map's text, each put behind the text so far.
 ghost use Rattle.std.specs.Prelude.{◌≡◌, ℕ, ◌<◌, List, ◌++◌, OnOk, Some, codes, decimal, map};
 ghost use Rattle.hex.specs.Hex.{encode_lower};
-ghost use Rattle.block_map.specs.Maps.{IsMap};
+ghost use Rattle.block_map.specs.Maps.{IsMap, blocks_in};
 ghost use Rattle.bmap_writer.specs.Written.{attribute, back_lines, closing, element, ended, front_lines, number_lines, opening, range_blocks, range_line, text_of};
 
 use base_fields::NoMemory;
@@ -55,6 +55,15 @@ fn put_number(text: &mut Vec<u8>, name: &str, n: u64) -> Result<(), NoMemory>
     Ok(())
 }
 
+/// Puts the line of how many blocks are in the ranges.
+fn put_mapped(text: &mut Vec<u8>, map: &BlockMap) -> Result<(), NoMemory>
+    requires { IsMap map.now }
+    ensures { OnOk result (text.new.items ≡ text.old.items ++ ended (element (codes "MappedBlocksCount") (decimal (blocks_in map.now.ranges)))) }
+{
+    put_number(text, "MappedBlocksCount", map.mapped_count())?;
+    Ok(())
+}
+
 /// Puts the numbers of a map.
 fn put_numbers(text: &mut Vec<u8>, map: &BlockMap) -> Result<(), NoMemory>
     requires { IsMap map.now }
@@ -63,7 +72,7 @@ fn put_numbers(text: &mut Vec<u8>, map: &BlockMap) -> Result<(), NoMemory>
     put_number(text, "ImageSize", map.size)?;
     put_number(text, "BlockSize", u64::from(map.block))?;
     put_number(text, "BlocksCount", map.block_count())?;
-    put_number(text, "MappedBlocksCount", map.mapped_count())?;
+    put_mapped(text, map)?;
     Ok(())
 }
 

@@ -21,7 +21,6 @@ const RANGE_ROOM: usize = 128;
 const SUM: &str = "BmapFileChecksum";
 
 /// The text of a block map, as bmap 2.0 spells it. Its memory is taken at the start.
-#[tactic(auto, using(crate::proofs::Joined::text_parts, crate::proofs::Joined::written_between))]
 pub fn write_bmap(alloc: Global, map: &BlockMap) -> Result<Bytes, NoMemory>
     requires { IsMap map.now }
     ensures written { IfOk result (λ bytes. bytes ≡ written_text map.now) }
