@@ -36,13 +36,17 @@ range_blocks r = if nat_eq r.first r.last then decimal r.first else decimal r.fi
 abbrev pub range_line : Range → List ℕ
 range_line r = codes "        <Range" ++ attribute r.digest ++ codes "> " ++ range_blocks r ++ codes " </Range>"
 
+-- how many blocks are in the ranges
+abbrev pub mapped_line : BlockMap → List ℕ
+mapped_line m = element (codes "MappedBlocksCount") (decimal (blocks_in m.ranges))
+
 -- the lines of the numbers
 abbrev pub number_lines : BlockMap → List (List ℕ)
 number_lines m =
     element (codes "ImageSize") (decimal m.size)
     ∷ element (codes "BlockSize") (decimal m.block)
     ∷ element (codes "BlocksCount") (decimal (block_count m))
-    ∷ element (codes "MappedBlocksCount") (decimal (blocks_in m.ranges))
+    ∷ mapped_line m
     ∷ []
 
 -- the lines in front of that of the sum

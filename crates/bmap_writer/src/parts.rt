@@ -1,8 +1,9 @@
 //! The lines of a map's text, each put behind the text so far.
-ghost use Rattle.std.specs.Prelude.{◌≡◌, ℕ, ◌<◌, List, ◌++◌, OnOk, Some, codes, decimal, map};
+ghost use Rattle.std.specs.Prelude.{◌≡◌, ℕ, ◌<◌, List, ◌++◌, OnOk, Some, decimal, map};
 ghost use Rattle.hex.specs.Hex.{encode_lower};
-ghost use Rattle.block_map.specs.Maps.{IsMap, blocks_in};
-ghost use Rattle.bmap_writer.specs.Written.{attribute, back_lines, closing, element, ended, front_lines, number_lines, opening, range_blocks, range_line, text_of};
+ghost use Rattle.block_map.specs.Maps.{IsMap};
+ghost use Rattle.bmap_writer.specs.Written.{attribute, back_lines, closing, element, ended, front_lines, number_lines};
+ghost use Rattle.bmap_writer.specs.Written.{mapped_line, opening, range_blocks, range_line, text_of};
 
 use base_fields::NoMemory;
 use block_map::{BlockMap, Range};
@@ -58,7 +59,7 @@ fn put_number(text: &mut Vec<u8>, name: &str, n: u64) -> Result<(), NoMemory>
 /// Puts the line of how many blocks are in the ranges.
 fn put_mapped(text: &mut Vec<u8>, map: &BlockMap) -> Result<(), NoMemory>
     requires { IsMap map.now }
-    ensures { OnOk result (text.new.items ≡ text.old.items ++ ended (element (codes "MappedBlocksCount") (decimal (blocks_in map.now.ranges)))) }
+    ensures { OnOk result (text.new.items ≡ text.old.items ++ ended (mapped_line map.now)) }
 {
     put_number(text, "MappedBlocksCount", map.mapped_count())?;
     Ok(())

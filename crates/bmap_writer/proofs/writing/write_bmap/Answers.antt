@@ -7,6 +7,7 @@ returns c = record {
   written =
       let size : length c.put_sum.new.text ≡ c.put_tail.new.text.len = search rules in
       let kept = c.from_vec.ensures ∙ held c.put_tail.new.text.items c.put_sum.new.text c.put_tail.new.text.len size in
-      sum_put c.args.map.now c.put_head.new.text.items c.put_tail.new.text.items c.from_vec.result c.len-at.result (search rules) (search rules)
+      sum_put c.args.map.now c.put_head.new.text.items c.put_tail.new.text.items c.from_vec.result
+      c.len-at.result (search rules) (search rules)
       (search rules) (search rules) (kept ∙ (rw c.deref_mut.ensures.value at c.put_sum.ensures.sum));
 }
