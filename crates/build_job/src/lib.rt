@@ -2,8 +2,10 @@
 //! there.
 #![tactic(auto)]
 
+mod all;
 mod faults;
 mod one;
 
+pub use all::build_images;
 pub use faults::BuildFault;
 pub use one::build_image;
