@@ -1,6 +1,6 @@
 -- One image more of a graph.
 use Rattle.std.specs.Prelude.{◌≡◌, ℕ, zero, suc, ◌<◌, List, [], ◌∷◌, ◌++◌, Contains, Option, Some, None, length}
-use Rattle.std.specs.Prelude.{slice_get, slice_index_or, take}
+use Rattle.std.specs.Prelude.{IsSomeAnd, slice_get, slice_index_or, take}
 use Rattle.std.specs.List.{cons_option, filter_map}
 use Rattle.std.proofs.Common.{refl, ap, sym, subst, ◌∙◌, arith}
 use Rattle.std.proofs.lemmas.List.{length-map}
@@ -15,7 +15,9 @@ use Rattle.image_graph.specs.declared.images.Graph.{Graph}
 use Rattle.image_specs.specs.declared.specs.ImageSpec.{ImageSpec}
 use Rattle.image_specs.specs.Specs.{full_names}
 use Rattle.outside.specs.Files.{OthersStay, Tree}
+use Rattle.build_job.specs.Faults.{IsRefused, IsStopped, image_of}
 use Rattle.build_job.specs.Files.{StayOutside}
+use Rattle.build_job.specs.declared.faults.BuildFault.{BuildFault}
 
 cons_append : (o : Option ImageSpec) (xs ys : List ImageSpec) → cons_option o xs ++ ys ≡ cons_option o (xs ++ ys)
 cons_append None xs ys = refl
@@ -83,6 +85,11 @@ stands_at graph sound order specs k d spec same_order same_specs below is =
           ∙ ap (λ (xs : List ℕ). slice_index_or graph.specs (slice_index_or xs k d) spec) same_order);
     }
 
+found_at : (graph : Graph) (k d : ℕ) (spec : ImageSpec) → StandsAt graph k d spec
+    → slice_get graph.specs (slice_index_or graph.order k d) ≡ Some spec
+found_at graph k d spec stands =
+    slice_get-get_or graph.specs (slice_index_or graph.order k d) spec stands.inside ∙ ap Some stands.is
+
 pub own_at : (graph : Graph) → IsGraph graph → (k d : ℕ) (spec : ImageSpec) → StandsAt graph k d spec
     → IsWithout spec.full spec
 own_at graph sound k d spec stands =
@@ -102,4 +109,22 @@ pub built_at : (graph : Graph) (k n d : ℕ) (spec : ImageSpec) (before middle a
     → Builds spec middle after → BuildsTo (filter_map (slice_get graph.specs) (take n graph.order)) before after
 built_at graph k n d spec before middle after next_number stands built next =
     built_more graph.specs graph.order k n d spec before middle after next_number stands.below
-    (slice_get-get_or graph.specs (slice_index_or graph.order k d) spec stands.inside ∙ ap Some stands.is) built next
+    (found_at graph k d spec stands) built next
+
+pub stopped_at : (graph : Graph) (order : List ℕ) (k d : ℕ) (spec : ImageSpec) (before middle after : Tree)
+    (fault : BuildFault) → order ≡ graph.order → StandsAt graph k d spec → image_of fault ≡ slice_index_or order k d
+    → BuildsTo (filter_map (slice_get graph.specs) (take k graph.order)) before middle
+    → IsRefused spec middle after fault → IsStopped graph before after fault
+stopped_at graph order k d spec before middle after fault same_order stands image built refused =
+    let is : image_of fault ≡ slice_index_or graph.order k d =
+    image ∙ ap (λ (xs : List ℕ). slice_index_or xs k d) same_order in
+    let found : slice_get graph.specs (image_of fault) ≡ Some spec =
+    ap (slice_get graph.specs) is ∙ found_at graph k d spec stands in
+    record {
+      place = k;
+      number = slice_get-get_or graph.order k d stands.below ∙ ap Some (sym is);
+      middle = middle;
+      built = built;
+      refused =
+          subst (λ (o : Option ImageSpec). IsSomeAnd o (λ s. IsRefused s middle after fault)) (sym found) refused;
+    }

@@ -1,5 +1,8 @@
 -- What shows that an image is not built.
-use Rattle.std.specs.Prelude.{ℕ, Err, IfOk}
+use Rattle.std.specs.Prelude.{◌≡◌, ℕ, Some, Err, IfOk, IsSomeAnd, slice_get, take}
+use Rattle.std.specs.List.{filter_map}
+use Rattle.build_laws.specs.Builds.{BuildsTo}
+use Rattle.image_graph.specs.declared.images.Graph.{Graph}
 use Rattle.image_composer.specs.Images.{ComposeAnswers}
 use Rattle.image_plan.specs.Faults.{is_counted, IsShown as IsPlanShown}
 use Rattle.image_plan.specs.Plans.{plan_said}
@@ -37,3 +40,11 @@ abbrev pub IsRefused : ImageSpec → Tree → Tree → BuildFault → Type 0
 IsRefused spec before after (Plan image fault) = Refuses is_counted (plan_said before spec) fault
 IsRefused spec before after (Compose image fault) =
     IfOk (plan_said before spec) (λ layout. ComposeAnswers layout before after (Err fault))
+
+-- of a graph: those before the image in the order are built, and it is refused by the files that they left
+pub record IsStopped (graph : Graph) (before after : Tree) (fault : BuildFault) : Type 0 where
+  pub place : ℕ
+  pub number : slice_get graph.order place ≡ Some (image_of fault)
+  pub middle : Tree
+  pub built : BuildsTo (filter_map (slice_get graph.specs) (take place graph.order)) before middle
+  pub refused : IsSomeAnd (slice_get graph.specs (image_of fault)) (λ spec. IsRefused spec middle after fault)
