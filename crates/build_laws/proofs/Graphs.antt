@@ -304,3 +304,13 @@ module _ (graph : Graph) (sound : IsGraph graph) (old new : Tree) (built : Built
 pub none_left_out : (graph : Graph) (before after : Tree) → IsGraph graph → Built before (ordered graph) after
     → Built before graph.specs after
 none_left_out graph before after sound built = all_built graph sound before after built
+
+-- no image of a graph is made of its own file
+pub none_of_own : (graph : Graph) → IsGraph graph → All (λ spec. IsWithout spec.full spec) graph.specs
+none_of_own graph sound k d inside =
+    let spec : ImageSpec = slice_index_or graph.specs k d in
+    let once : count_by (nat_eq k) graph.order ≡ 1 = stands_once graph sound k inside in
+    let stands : Contains graph.order k = found_counted k graph.order (omega arith) in
+    let there : Contains (ordered graph) spec =
+    ordered_at graph.specs graph.order k spec stands.0 stands.1 stands.2 (slice_get-get_or graph.specs k d inside) in
+    subst (λ (s : ImageSpec). IsWithout s.full s) there.2 ((in_order graph sound).own there.0 spec there.1)

@@ -1,5 +1,5 @@
 -- lemmas
 mod Afterwards
-mod Graphs
+pub mod Graphs
 mod Sources
 pub mod Steps
