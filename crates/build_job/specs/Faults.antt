@@ -1,5 +1,5 @@
 -- What shows that an image is not built.
-use Rattle.std.specs.Prelude.{◌≡◌, ℕ, Some, Err, IfOk, IsSomeAnd, slice_get, take}
+use Rattle.std.specs.Prelude.{◌≡◌, ℕ, Some, Err, IsOkAnd, IsSomeAnd, slice_get, take}
 use Rattle.std.specs.List.{filter_map}
 use Rattle.build_laws.specs.Builds.{BuildsTo}
 use Rattle.image_graph.specs.declared.images.Graph.{Graph}
@@ -34,12 +34,12 @@ IsShown before now (Compose image fault) = IsComposeShown before now fault
 
 -- ---- over told files
 
--- the image has no layout by the files before, or its layout is not composed from them; or a call failed or memory was
--- refused
+-- the image has no layout by the files before, or it has one that is not composed from them; or a call failed or memory
+-- was refused
 abbrev pub IsRefused : ImageSpec → Tree → Tree → BuildFault → Type 0
 IsRefused spec before after (Plan image fault) = Refuses is_counted (plan_said before spec) fault
 IsRefused spec before after (Compose image fault) =
-    IfOk (plan_said before spec) (λ layout. ComposeAnswers layout before after (Err fault))
+    IsOkAnd (plan_said before spec) (λ layout. ComposeAnswers layout before after (Err fault))
 
 -- of a graph: those before the image in the order are built, it is refused by the files that they left, and every name
 -- but that of its file is still as they left it
