@@ -114,8 +114,8 @@ built_at graph k n d spec before middle after next_number stands built next =
 pub stopped_at : (graph : Graph) (order : List ℕ) (k d : ℕ) (spec : ImageSpec) (before middle after : Tree)
     (fault : BuildFault) → order ≡ graph.order → StandsAt graph k d spec → image_of fault ≡ slice_index_or order k d
     → BuildsTo (filter_map (slice_get graph.specs) (take k graph.order)) before middle
-    → IsRefused spec middle after fault → IsStopped graph before after fault
-stopped_at graph order k d spec before middle after fault same_order stands image built refused =
+    → IsRefused spec middle after fault → OthersStay spec.full middle after → IsStopped graph before after fault
+stopped_at graph order k d spec before middle after fault same_order stands image built refused others =
     let is : image_of fault ≡ slice_index_or graph.order k d =
     image ∙ ap (λ (xs : List ℕ). slice_index_or xs k d) same_order in
     let found : slice_get graph.specs (image_of fault) ≡ Some spec =
@@ -127,4 +127,6 @@ stopped_at graph order k d spec before middle after fault same_order stands imag
       built = built;
       refused =
           subst (λ (o : Option ImageSpec). IsSomeAnd o (λ s. IsRefused s middle after fault)) (sym found) refused;
+      others =
+          subst (λ (o : Option ImageSpec). IsSomeAnd o (λ s. OthersStay s.full middle after)) (sym found) others;
     }

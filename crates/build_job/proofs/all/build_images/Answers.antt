@@ -29,7 +29,8 @@ returns-in_err-build_image-clause-refused g c = λ told.
     rw same (stopped_at graph _ c.loop-image.image-index _ c.index-specs-image.result
     (file c.args.files.now) (file c.loop-image.files) (file c.build_image.new.files) c.in_err-build_image.field-0.0
     c.as_slice-image-items.ensures stands c.in_err-build_image.ensures.image
-    (c.loop-image.invariant.built told) (c.in_err-build_image.ensures.refused told))
+    (c.loop-image.invariant.built told) (c.in_err-build_image.ensures.refused told)
+    c.build_image.ensures.others)
 
 pub loop-image-preserved : goal.loop-image-preserved
 loop-image-preserved g c =

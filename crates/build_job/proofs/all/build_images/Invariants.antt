@@ -16,5 +16,7 @@ invariant-loop-image g l =
       given_back : IsGivenBack l.fn.pool l.pool;
       none_fell : NoneFell (files.counts l.fn.files) (files.counts l.files);
       others : StayOutside (full_names l.graph.specs) (files.file l.fn.files) (files.file l.files);
-      built : files.told → BuildsTo (filter_map (slice_get l.graph.specs) (take l.image-index l.graph.order)) (files.file l.fn.files) (files.file l.files);
+      built : files.told
+          → BuildsTo (filter_map (slice_get l.graph.specs) (take l.image-index l.graph.order))
+          (files.file l.fn.files) (files.file l.files);
     }
