@@ -1,8 +1,8 @@
-ghost use Rattle.build_laws.specs.Laws.{BuiltAfterwards, GraphsAreBuilt, NoneLeftOut};
+ghost use Rattle.build_laws.specs.Laws.{BuiltAfterwards, GraphsAreBuilt, NoneLeftOut, PlansAreServed};
 
-/// Images that are built one after another, each from the files that those before it left, have the
-/// bytes of their layouts by the files afterwards, where no two have the same file and none is made of
-/// its own file or of that of a later one. It does nothing when it runs.
+/// Images that are built one after another, each from the files that those before it left, are made from the
+/// files afterwards, too, where no two have the same file and none is made from its own file or from that of a
+/// later one. It does nothing when it runs.
 pub fn built_afterwards()
     ensures { BuiltAfterwards }
 {}
@@ -18,4 +18,9 @@ pub fn graphs_are_built()
 /// when it runs.
 pub fn no_image_is_left_out()
     ensures { NoneLeftOut }
+{}
+
+/// The files have every byte of theirs that a layout by their lengths needs. It does nothing when it runs.
+pub fn plans_are_served()
+    ensures { PlansAreServed }
 {}

@@ -3,4 +3,4 @@
 
 mod laws;
 
-pub use laws::{built_afterwards, graphs_are_built, no_image_is_left_out};
+pub use laws::{built_afterwards, graphs_are_built, no_image_is_left_out, plans_are_served};
