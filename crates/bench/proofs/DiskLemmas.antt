@@ -9,7 +9,7 @@ use Rattle.bench.specs.Disk.{Disk, IsPair, EachPair, EachSince, IsSettled, Still
 pub elapses_so : {a b : Disk} {P Q : List ℕ → List ℕ → Type 0} → Elapses a b P → ((t j : List ℕ) → P t j → Q t j) → Elapses a b Q
 elapses_so {a} {b} {P} {Q} time weaker = record {
   later = time.later;
-  since = λ m t j le left. ⊎_elim (λ before. inl before) (λ p. inr (weaker t j p)) (time.since m t j le left);
+  since = λ m t j le left. ⊎_elim (λ before. inl before) (λ p. inr (weaker t j p.0, p.1)) (time.since m t j le left);
   kept = time.kept;
 }
 
@@ -17,7 +17,10 @@ elapses_so {a} {b} {P} {Q} time weaker = record {
 pub elapses_then : {a b c : Disk} {P : List ℕ → List ℕ → Type 0} → Elapses a b P → Elapses b c P → Elapses a c P
 elapses_then {a} {b} {c} {P} first second = record {
   later = omega (arith, first.later, second.later);
-  since = λ m t j le left. ⊎_elim (λ before. first.since m t j le before) (λ p. inr p) (second.since m t j (omega (arith, le, first.later)) left);
+  since = λ m t j le left.
+      ⊎_elim (λ before. ⊎_elim (λ b. inl b)
+      (λ p. inr (p.0, λ n low. second.kept n t j (omega (arith, low, first.later)) (p.1 n low))) (first.since m t j le before))
+      (λ p. inr (p.0, λ n low. p.1 n (omega (arith, low, first.later)))) (second.since m t j (omega (arith, le, first.later)) left);
   kept = λ m t j le left. second.kept m t j (omega (arith, le, first.later)) (first.kept m t j le left);
 }
 
@@ -250,7 +253,7 @@ settled_step {dev} {step} {a} {b} settled steps image leaves = let (was, (is, st
 -- From the start on: a run of which each pair has P, where each pair at its start had it. There is no pair since the
 -- start but those of the start, by the law of a bench.
 pub runs_since : {a b : Disk} {P : List ℕ → List ℕ → Type 0} → ((t j : List ℕ) → a.left a.moment t j → IsPair a t j) → EachPair a P → Runs a b P → EachSince a.moment b P
-runs_since {a} {b} {P} only each run t j left = ⊎_elim (λ before. each t j (only t j before)) (λ p. p) (run.time.since a.moment t j (omega arith) left)
+runs_since {a} {b} {P} only each run t j left = ⊎_elim (λ before. each t j (only t j before)) (λ p. p.0) (run.time.since a.moment t j (omega arith) left)
 
 -- a settled device has only what it reads among the images of a pair
 pub settled_pair : (dev : Dev) (a : Disk) (t j : List ℕ) → IsSettled a dev → IsPair a t j → part_of dev t j ≡ a.reads dev

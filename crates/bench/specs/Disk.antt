@@ -66,11 +66,15 @@ pub record Grown (len : ℕ) (old new : List ℕ) : Type 0 where
 abbrev pub After : (List ℕ → List ℕ → Type 0) → (List ℕ → Type 0) → List ℕ → Type 0
 After step images new = (old : List ℕ) × (images old × step old new)
 
--- Time goes on: a pair that a stop since an earlier moment may have left was so before, or has P; and none that was
--- so before is forgotten.
+-- a stop since a moment, or since any before it, may have left the pair
+abbrev pub IsLeftSince : ℕ → Disk → List ℕ → List ℕ → Type 0
+IsLeftSince m disk t j = (n : ℕ) → n ≤ m → disk.left n t j
+
+-- Time goes on: a pair that a stop since an earlier moment may have left was so before, or it has P and a stop since then
+-- may have left it; and none that was so before is forgotten.
 pub record Elapses (old new : Disk) (P : List ℕ → List ℕ → Type 0) : Type 0 where
   pub later : old.moment ≤ new.moment
-  pub since : (m : ℕ) (t j : List ℕ) → m ≤ old.moment → new.left m t j → old.left m t j ⊎ P t j
+  pub since : (m : ℕ) (t j : List ℕ) → m ≤ old.moment → new.left m t j → old.left m t j ⊎ (P t j × IsLeftSince old.moment new t j)
   pub kept : (m : ℕ) (t j : List ℕ) → m ≤ old.moment → old.left m t j → new.left m t j
 
 -- nothing was written: all reads as before, each image is one from before, and so is each pair since
@@ -117,3 +121,11 @@ pub record Runs (old new : Disk) (P : List ℕ → List ℕ → Type 0) : Type 0
 -- where each pair at the start has P, so has each since
 abbrev pub Keeps : (List ℕ → List ℕ → Type 0) → Disk → Disk → Type 0
 Keeps P old new = EachPair old P → Runs old new P
+
+-- Up to some moment a stop left a pair of those at the start, and from then on each pair that a stop may have left has P.
+pub record FromThenOn (P : List ℕ → List ℕ → Type 0) (old new : Disk) : Type 0 where
+  pub moment : ℕ
+  pub later : old.moment ≤ moment
+  pub passed : moment ≤ new.moment
+  pub before : EachSince old.moment new (λ t j. IsPair old t j ⊎ new.left moment t j)
+  pub after : EachSince moment new P

@@ -4,7 +4,7 @@ use Rattle.std.proofs.Math.Path.{fun_ext}
 use Rattle.base_fields.specs.Fields.{written}
 use Rattle.bench.specs.declared.Dev.{Dev}
 use Rattle.bench.specs.declared.Dev.TheVariants.{Target, Journal}
-use Rattle.bench.specs.Disk.{Disk, IsPair, IsSettled, StillLeaves, Torn, Grown, After, Elapses, Looked, Steps, Touches, Grows as GrowsTo, other_of}
+use Rattle.bench.specs.Disk.{Disk, IsPair, IsSettled, StillLeaves, Torn, Grown, After, Elapses, IsLeftSince, Looked, Steps, Touches, Grows as GrowsTo, other_of}
 use Rattle.bench_devices.specs.History.{Effect, Writes, Grows, Settles, Names, Rests, Call, Log, logged, effect_on, over, lengthened, read_after, images_after, reads_of, images_of, left_of, disk_of}
 use Rattle.bench_devices.specs.HistoryLaws.{over_torn, lengthened_grown, reads_leave_of}
 use Rattle.bench.specs.Meter.{Both}
@@ -17,8 +17,8 @@ goes_on first call calls = record {
   since = since_of;
   kept = λ m t j le left. inr left;
 } where
-  since_of : (m : ℕ) (t j : List ℕ) → m ≤ length calls → left_of first (call ∷ calls) m t j → left_of first calls m t j ⊎ IsPair (disk_of first (call ∷ calls)) t j
-  since_of m t j le (inl now) = inr (now.1, now.2)
+  since_of : (m : ℕ) (t j : List ℕ) → m ≤ length calls → left_of first (call ∷ calls) m t j → left_of first calls m t j ⊎ (IsPair (disk_of first (call ∷ calls)) t j × IsLeftSince (length calls) (disk_of first (call ∷ calls)) t j)
+  since_of m t j le (inl now) = inr ((now.1, now.2), λ n low. inl (omega (arith, low), now.1, now.2))
   since_of m t j le (inr before) = inl before
 
 -- a call after which each device reads as before and each image is one from before

@@ -1,4 +1,5 @@
 -- lemmas
 mod GateLemmas
 pub mod KeptOpened
+mod OpeningTime
 mod PieceLemmas

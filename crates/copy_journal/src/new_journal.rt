@@ -1,6 +1,6 @@
 ghost use Rattle.std.specs.Prelude.{◌≡◌, ◌⊎◌, ◌+◌, ◌*◌, ◌≤◌, ◌↔◌, ◌∷◌, [], IfErr, IfOk, IsTrue, OnErr, OnOk, length};
 ghost use Rattle.base_fields.specs.Fields.{written};
-ghost use Rattle.bench.specs.Disk.{Grows, IsSettled, Looked, Moves, StillLeaves, Steps, Torn};
+ghost use Rattle.bench.specs.Disk.{FromThenOn, Grows, IsSettled, Looked, Moves, StillLeaves, Steps, Torn};
 ghost use Rattle.bench.specs.Meter.{CostsOn, IsAttached, SameNames};
 ghost use Rattle.bench.specs.declared.Dev.{Dev};
 ghost use Rattle.journal_format.specs.JobFields.{IsWithinLimits};
@@ -21,7 +21,10 @@ pub fn open_new<B: Bench>(bench: &mut B, id: &JobId, window: u32) -> Result<(), 
     requires limits { IsWithinLimits id.now }
     requires window { IsWindow window }
     ensures moves { B.told → Moves (IsOpening id.now (B.disk bench.old)) (B.disk bench.old) (B.disk bench.new) }
-    ensures after { B.told → Looked (B.disk bench.old) (B.disk bench.new) ⊎ EachImage (B.disk bench.new) (IsClosedOrNew id.now) }
+    // Up to the end of its first sync the images are those of before; from then on each isn't held, or is opened with no mark.
+    ensures after { B.told → Looked (B.disk bench.old) (B.disk bench.new)
+        ⊎ FromThenOn (λ t j. IsClosedOrNew id.now j) (B.disk bench.old) (B.disk bench.new) }
+    ensures now { B.told → Looked (B.disk bench.old) (B.disk bench.new) ⊎ EachImage (B.disk bench.new) (IsClosedOrNew id.now) }
     ensures unwritten { B.told → IsHeld ((B.disk bench.old).reads Dev.Journal) → Looked (B.disk bench.old) (B.disk bench.new) }
     ensures held { B.told → OnOk result (¬ IsHeld ((B.disk bench.old).reads Dev.Journal)) }
     ensures ok { B.told → OnOk result (IsNew id.now window ((B.disk bench.new).reads Dev.Journal)) }
