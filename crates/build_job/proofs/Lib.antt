@@ -1,2 +1,7 @@
 -- lemmas
+mod Covers
+mod Kinds
+mod Measured
+mod Sized
+mod Sparse
 mod Steps

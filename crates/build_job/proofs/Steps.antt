@@ -1,21 +1,19 @@
 -- One image more of a graph.
-use Rattle.std.specs.Prelude.{◌≡◌, ◌≢◌, ℕ, zero, suc, ◌<◌, List, [], ◌∷◌, ◌++◌, All, Contains, Option, Some, None, length}
+use Rattle.std.specs.Prelude.{◌≡◌, ℕ, zero, suc, ◌<◌, List, [], ◌∷◌, ◌++◌, All, Contains, Option, Some, None, length}
 use Rattle.std.specs.Prelude.{slice_get, slice_index_or, take}
-use Rattle.std.specs.List.{cons_option, filter_map, flat_map}
+use Rattle.std.specs.List.{cons_option, filter_map}
 use Rattle.std.proofs.Common.{refl, ap, sym, subst, ◌∙◌, arith}
-use Rattle.std.proofs.Math.Seq.{take-append_seam}
 use Rattle.std.proofs.lemmas.List.{length-map}
-use Rattle.std.proofs.lemmas.List.Elements.{All-head, All-tail, All-take}
+use Rattle.std.proofs.lemmas.List.Elements.{All-head, All-tail}
 use Rattle.std.proofs.lemmas.Option.{slice_get-get_or}
-use Rattle.build_laws.specs.Builds.{Builds, BuildsTo, child_in}
-use Rattle.build_laws.specs.Order.{IsFreeOf, IsWithout, ordered, sources_in}
-use Rattle.build_laws.proofs.Graphs.{in_order}
+use Rattle.build_laws.specs.Builds.{Builds, BuildsTo}
+use Rattle.build_laws.specs.Order.{IsWithout, ordered}
+use Rattle.build_laws.proofs.Graphs.{none_of_own}
 use Rattle.build_laws.proofs.Steps.{builds_more}
 use Rattle.image_graph.specs.Children.{children_of}
-use Rattle.image_graph.specs.IsGraph.{IsGraph}
+use Rattle.image_graph.specs.IsGraph.{IsGraph, IsMadeOf}
 use Rattle.image_graph.specs.declared.images.Graph.{Graph}
 use Rattle.image_specs.specs.declared.specs.ImageSpec.{ImageSpec}
-use Rattle.image_specs.specs.declared.specs.Source.{Source}
 use Rattle.image_specs.specs.Specs.{full_names}
 use Rattle.outside.specs.Files.{OthersStay, Tree}
 use Rattle.build_job.specs.Faults.{IsRefused, IsStopped}
@@ -37,18 +35,22 @@ taken_more specs (image ∷ order) (suc k) d inside =
     ∙ sym (cons_append (slice_get specs image) (filter_map (slice_get specs) (take k order))
     (cons_option (slice_get specs (slice_index_or order k d)) []))
 
+pub taken_at : (specs : List ImageSpec) (order : List ℕ) (k n d : ℕ) (spec : ImageSpec) → n ≡ suc k → k < length order
+    → slice_get specs (slice_index_or order k d) ≡ Some spec
+    → filter_map (slice_get specs) (take n order) ≡ filter_map (slice_get specs) (take k order) ++ spec ∷ []
+taken_at specs order k n d spec next_number inside there =
+    ap (λ (m : ℕ). filter_map (slice_get specs) (take m order)) next_number
+    ∙ taken_more specs order k d inside
+    ∙ ap (λ (o : Option ImageSpec). filter_map (slice_get specs) (take k order) ++ cons_option o []) there
+
 -- one more is built
 pub built_more : (specs : List ImageSpec) (order : List ℕ) (k n d : ℕ) (spec : ImageSpec) (before middle after : Tree)
     → n ≡ suc k → k < length order → slice_get specs (slice_index_or order k d) ≡ Some spec
     → BuildsTo specs (filter_map (slice_get specs) (take k order)) before middle → Builds specs spec middle after
     → BuildsTo specs (filter_map (slice_get specs) (take n order)) before after
 built_more specs order k n d spec before middle after next_number inside there built next =
-    let more : filter_map (slice_get specs) (take n order)
-    ≡ filter_map (slice_get specs) (take k order) ++ cons_option (Some spec) [] =
-    ap (λ (m : ℕ). filter_map (slice_get specs) (take m order)) next_number
-    ∙ taken_more specs order k d inside
-    ∙ ap (λ (o : Option ImageSpec). filter_map (slice_get specs) (take k order) ++ cons_option o []) there in
-    subst (λ (xs : List ImageSpec). BuildsTo specs xs before after) (sym more)
+    subst (λ (xs : List ImageSpec). BuildsTo specs xs before after)
+    (sym (taken_at specs order k n d spec next_number inside there))
     (builds_more specs (filter_map (slice_get specs) (take k order)) spec before middle after built next)
 
 all_behind : (Q : ImageSpec → Type 0) (o : Option ImageSpec) (xs : List ImageSpec) → All Q (cons_option o xs) → All Q xs
@@ -115,16 +117,18 @@ pub holds_at : (Q : ImageSpec → Type 0) (graph : Graph) (k d : ℕ) (spec : Im
 holds_at Q graph k d spec stands all =
     of_ordered Q graph.specs graph.order k d spec all stands.below (found_at graph k d spec stands)
 
-all_front : (P : Source → Type 0) (xs ys : List Source) → All P (xs ++ ys) → All P xs
-all_front P xs ys all = subst (All P) (take-append_seam xs ys) (All-take P (length xs) (xs ++ ys) all)
-
 pub own_at : (graph : Graph) → IsGraph graph → (k d : ℕ) (spec : ImageSpec) → StandsAt graph k d spec
     → IsWithout spec.full spec
 own_at graph sound k d spec stands =
-    let own : IsFreeOf graph.specs spec.full spec =
-    holds_at (λ s. IsFreeOf graph.specs s.full s) graph k d spec stands (in_order graph sound).own in
-    all_front (λ source. source.file ≢ Some spec.full) spec.sources
-    (flat_map (λ source. sources_in (child_in graph.specs source)) spec.sources) own
+    subst (λ (s : ImageSpec). IsWithout s.full s) stands.is
+    (none_of_own graph sound (slice_index_or graph.order k d) spec stands.inside)
+
+-- its sources have the files of their images
+pub children_at : (graph : Graph) → IsGraph graph → (k d : ℕ) (spec : ImageSpec) → StandsAt graph k d spec
+    → All (IsMadeOf graph.specs) spec.sources
+children_at graph sound k d spec stands =
+    subst (λ (s : ImageSpec). All (IsMadeOf graph.specs) s.sources) stands.is
+    (sound.children (slice_index_or graph.order k d) spec stands.inside)
 
 pub others_at : (graph : Graph) (k d : ℕ) (spec : ImageSpec) (before middle after : Tree) → StandsAt graph k d spec
     → StayOutside (full_names graph.specs) before middle → OthersStay spec.full middle after

@@ -66,7 +66,15 @@ pub fn write_image<F: Files>(
     };
     let cover = cover_of(alloc, files, specs, source, len)?;
     let block = spec.keys.sparse.block_size;
-    match write_sparse(files, name.text(), len, &cover, block, spec.full.text(), pool) {
+    match write_sparse(
+        files,
+        name.text(),
+        len,
+        &cover,
+        block,
+        spec.full.text(),
+        pool,
+    ) {
         Ok(()) => Ok(()),
         Err(fault) => Err(BuildFault::Compose {
             image: number,
