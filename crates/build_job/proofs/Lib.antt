@@ -1,7 +1,8 @@
 -- lemmas
-mod Covers
-mod Kinds
+mod ByKind
+mod Counting
+mod Laid
 mod Measured
 mod Sized
-mod Sparse
 mod Steps
+mod Written
