@@ -40,5 +40,5 @@ composing_refused number spec layout before middle fault served plan same comple
   refl,
   subst IsOk (sym plan) refl,
   counted fault (complete (subst (λ (t : Tree). HaveNeeded t layout.parts (length layout.parts)) (sym same)
-  (served before spec layout plan))),
+      (served before spec layout plan))),
 )

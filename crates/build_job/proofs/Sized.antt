@@ -1,7 +1,7 @@
 -- The lengths of the files of images that are built, one after another.
-use Rattle.std.specs.Prelude.{◌≡◌, ℕ, suc, List, [], ◌∷◌, ◌++◌, All, length, map, slice_get, take}
+use Rattle.std.specs.Prelude.{◌≡◌, ℕ, suc, List, [], ◌∷◌, ◌++◌, All, Some, length, map, slice_get, take}
 use Rattle.std.specs.List.{filter_map}
-use Rattle.std.proofs.Common.{ap, sym, ◌∙◌}
+use Rattle.std.proofs.Common.{ap, subst, sym, ◌∙◌}
 use Rattle.std.proofs.lemmas.List.{map-append}
 use Rattle.std.proofs.lemmas.List.Elements.{All-weaker}
 use Rattle.build_laws.specs.Builds.{Built, IsBuilt, IsOfKind}
@@ -49,3 +49,18 @@ sizes_more graph file k n d spec sizes new len next_number stands so_far long gr
     ∙ ap (λ (l : ℕ). map (size_in file) front ++ l ∷ []) long
     ∙ sym (map-append (size_in file) front (spec ∷ []))
     ∙ ap (map (size_in file)) (sym more)
+
+-- ---- a file under the same name in the same files
+
+pub there_still : (old now : Tree) (name given : List ℕ) → now ≡ old → given ≡ name → old name ≡ Some (bytes_of old name)
+    → now given ≡ Some (bytes_of now given)
+there_still old now name given same_files same_name there =
+    subst (λ (t : Tree). t given ≡ Some (bytes_of t given)) (sym same_files)
+    (subst (λ (n : List ℕ). old n ≡ Some (bytes_of old n)) (sym same_name) there)
+
+pub long_still : (old now : Tree) (name given : List ℕ) (len : ℕ) → now ≡ old → given ≡ name
+    → len ≡ length (bytes_of now given) → len ≡ length (bytes_of old name)
+long_still old now name given len same_files same_name long =
+    long
+    ∙ ap (λ (t : Tree). length (bytes_of t given)) same_files
+    ∙ ap (λ (n : List ℕ). length (bytes_of old n)) same_name

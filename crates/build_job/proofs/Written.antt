@@ -59,39 +59,21 @@ read_of before spec source name len one named said =
 -- ---- its file
 
 pub written_builds : (all : List ImageSpec) (spec : ImageSpec) (source : Source) (name : List ℕ) (len : ℕ)
-    (cover : List Span) (before middle after : Tree) (done : Unit {0}) → spec.kind ≡ kind.Sparse
-    → spec.sources ≡ source ∷ [] → source.file ≡ Some name → sparse_said before spec ≡ Ok len
-    → IsCoverFor before len cover (child_in all source) → middle ≡ before
-    → Writes cover spec.keys.sparse.block_size len name spec.full middle after (Ok done)
-    → OthersStay spec.full middle after → Builds all spec before after
-written_builds all spec source name len cover before middle after done is one named said counts same writes others =
+    (cover : List Span) (before first middle after : Tree) (from to : List ℕ) (done : Unit {0})
+    → spec.kind ≡ kind.Sparse → spec.sources ≡ source ∷ [] → source.file ≡ Some name → sparse_said before spec ≡ Ok len
+    → IsCoverFor first len cover (child_in all source) → first ≡ before → middle ≡ first → from ≡ name → to ≡ spec.full
+    → Writes cover spec.keys.sparse.block_size len from to middle after (Ok done) → OthersStay to middle after
+    → Builds all spec before after
+written_builds all spec source name len cover before first middle after from to done is one named said counts
+    same_first same_middle same_from same_to writes others =
+    let block : ℕ = spec.keys.sparse.block_size in
+    let same : middle ≡ before = same_middle ∙ same_first in
     let read : IsRead (before name) (2 ^ 43) len = read_of before spec source name len one named said in
-    let wrote : Writes cover spec.keys.sparse.block_size len name spec.full before after (Ok done) =
-    subst (λ (t : Tree). Writes cover spec.keys.sparse.block_size len name spec.full t after (Ok done)) same writes in
-    sparse_builds all spec source name len cover before after is one named read.found read.long read.small counts
-    wrote.1 (subst (λ (t : Tree). OthersStay spec.full t after) same others)
-
--- ---- its refusals
-
-pub writing_refused : (all : List ImageSpec) (number : ℕ) (spec : ImageSpec) (source : Source) (name : List ℕ) (len : ℕ)
-    (cover : List Span) (before middle : Tree) (fault : ComposeFault) → spec.sources ≡ source ∷ []
-    → source.file ≡ Some name → sparse_said before spec ≡ Ok len → middle ≡ before
-    → IsRefusal cover spec.keys.sparse.block_size len (middle name) fault
-    → IsSparseRefused all number spec before (Compose number fault)
-writing_refused all number spec source name len cover before middle fault one named said same refusal =
-    let read : IsRead (before name) (2 ^ 43) len = read_of before spec source name len one named said in (
-      refl,
-      subst IsOk (sym said) refl,
-      none_lacks cover spec.keys.sparse.block_size (2 ^ 43) len (before name) fault read
-          (subst (λ (t : Tree). IsRefusal cover spec.keys.sparse.block_size len (t name) fault) same refusal),
-    )
-
-pub cover_refused : (all : List ImageSpec) (number : ℕ) (spec : ImageSpec) (source : Source) (before middle : Tree)
-    (fault : BuildFault) → spec.sources ≡ source ∷ [] → middle ≡ before → IsCoverRefused all source middle fault
-    → IsSparseRefused all number spec before fault
-cover_refused all number spec source before middle (Plan image f) one same h =
-    inr (subst (λ (s : Source). IsChildRefused all s before image f) (sym (first_is spec source one))
-    (subst (λ (t : Tree). IsChildRefused all source t image f) same h))
-cover_refused all number spec source before middle (Compose image f) one same h = absurd h
-cover_refused all number spec source before middle (Measure image f) one same h = absurd h
-cover_refused all number spec source before middle NoMemory one same h = tt
+    let wrote : Writes cover block len name spec.full before after (Ok done) =
+    subst (λ (t : Tree). Writes cover block len name spec.full t after (Ok done)) same
+    (subst (λ (n : List ℕ). Writes cover block len n spec.full middle after (Ok done)) same_from
+    (subst (λ (n : List ℕ). Writes cover block len from n middle after (Ok done)) same_to writes)) in
+    sparse_builds all spec source name len cover before after is one named read.found read.long read.small
+    (subst (λ (t : Tree). IsCoverFor t len cover (child_in all source)) same_first counts) wrote.1
+    (subst (λ (t : Tree). OthersStay spec.full t after) same
+    (subst (λ (n : List ℕ). OthersStay n middle after) same_to others))
