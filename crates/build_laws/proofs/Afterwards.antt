@@ -16,7 +16,7 @@ use Rattle.image_specs.specs.declared.specs.Source.{Source}
 use Rattle.image_specs.specs.Specs.{full_names}
 use Rattle.outside.specs.Files.{Tree}
 use Rattle.sparse_text.specs.Text.{IsSparseText}
-use Rattle.build_laws.specs.Builds.{Builds, BuildsTo, Built, IsBuilt, IsCoverBy, IsCoverFor, IsCoverOf, IsLaid}
+use Rattle.build_laws.specs.Builds.{BuildsTo, Built, IsBuilt, IsCoverBy, IsCoverFor, IsCoverOf, IsLaid}
 use Rattle.build_laws.specs.Builds.{IsOfKind, IsSparse, child_in}
 use Rattle.build_laws.specs.Order.{AreInOrder, inputs_of, sources_in}
 use Rattle.build_laws.proofs.Sources.{NameStays, SourcesStay, byte_same, plan_same}

@@ -15,7 +15,7 @@ use Rattle.flash_geometry.specs.Layouts.{parts_from as flash_parts_from}
 use Rattle.flash_geometry.specs.Places.{places}
 use Rattle.image_layout.specs.declared.layout.Layout.{Layout}
 use Rattle.image_layout.specs.declared.layout.Placed.{Placed}
-use Rattle.image_parts.specs.Files.{HaveNeeded, IsNeeded, part_of, source_in}
+use Rattle.image_parts.specs.Files.{HaveNeeded, source_in}
 use Rattle.image_plan.specs.Lengths.{length_of, length_under, lengths_of}
 use Rattle.image_plan.specs.Plans.{geometry_of, layout_on, plan_said}
 use Rattle.image_specs.specs.declared.specs.ImageSpec.{ImageSpec}

@@ -1,6 +1,6 @@
 -- Where the files that an image is made of stay as they are, its layout is the same, and so are the bytes of it.
 use Rattle.std.specs.Prelude.{◌≡◌, ℕ, zero, suc, ◌+◌, ◌<◌, Bool, cond, List, [], ◌∷◌, Option, Some, None, is_none}
-use Rattle.std.specs.Prelude.{Result, Ok, Err, length, unwrap_or}
+use Rattle.std.specs.Prelude.{Ok, Err, length, unwrap_or}
 use Rattle.std.specs.List.{AllByRecursion, position_from}
 use Rattle.std.proofs.Common.{refl, ap, sym, subst, ◌∙◌, arith}
 use Rattle.std.proofs.lemmas.Iterator.Adapters.{position_from-zero}

@@ -14,7 +14,7 @@ use Rattle.image_specs.specs.declared.specs.ImageSpec.{ImageSpec}
 use Rattle.image_specs.specs.declared.specs.Source.{Source}
 use Rattle.outside.specs.Files.{IsThere, OthersStay, Tree, bytes_of}
 use Rattle.sparse_text.specs.Text.{IsSparseText}
-use Rattle.build_laws.specs.Builds.{Builds, BuildsTo, HasLayout, IsCoverFor, IsLaid, IsOfKind, IsSparse, child_in}
+use Rattle.build_laws.specs.Builds.{Builds, BuildsTo, HasLayout, IsCoverFor, IsLaid, IsOfKind, child_in}
 use Rattle.build_laws.proofs.Sources.{file_of_plan}
 
 -- one more behind those that are built
@@ -82,8 +82,11 @@ sparse_builds all spec source name size cover before after is one named found lo
     small = subst (λ (n : ℕ). n ≤ 2 ^ 43) long small;
     cover = cover;
     counts = subst (λ (n : ℕ). IsCoverFor before n cover (child_in all source)) long counts;
-    has = (has.0, subst (λ (bytes : List ℕ). IsSparseText bytes cover spec.keys.sparse.block_size
-        (bytes_of after spec.full)) (sized_same size (bytes_of before name) long) has.1);
+    has = (
+      has.0,
+      subst (λ (bytes : List ℕ). IsSparseText bytes cover spec.keys.sparse.block_size
+          (bytes_of after spec.full)) (sized_same size (bytes_of before name) long) has.1,
+    );
   });
   others = others;
 }
