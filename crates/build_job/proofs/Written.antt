@@ -1,52 +1,24 @@
--- A sparse image that is written, and its refusals.
-use Rattle.std.specs.Prelude.{◌≡◌, ◌≢◌, ℕ, ◌≤◌, ◌^◌, List, [], ◌∷◌, All, Option, Some, None, Ok, IsOk, IsSome, length}
+-- A sparse image that is written.
+use Rattle.std.specs.Prelude.{◌≡◌, ℕ, ◌^◌, List, [], ◌∷◌, Some, None, Ok, length}
 use Rattle.std.specs.Prelude.{slice_index_or}
-use Rattle.std.proofs.Common.{refl, ap, subst, sym, ◌∙◌, arith, inl, inr}
-use Rattle.std.proofs.lemmas.List.Elements.{All-head}
+use Rattle.std.proofs.Common.{ap, subst, ◌∙◌}
 use Rattle.base_fields.specs.declared.spans.Span.{Span}
 use Rattle.build_laws.specs.Builds.{Builds, IsCoverFor, child_in}
-use Rattle.build_laws.specs.Order.{IsWithout}
 use Rattle.build_laws.proofs.Steps.{sparse_builds}
-use Rattle.conf_keys.specs.declared.conf.Kind.{Kind}
 use Rattle.conf_keys.specs.declared.conf.Kind.TheVariants as kind
-use Rattle.image_graph.specs.IsGraph.{IsMadeOf}
 use Rattle.image_plan.specs.declared.faults.PlanFault.TheVariants.{Place}
-use Rattle.image_specs.specs.IsSpec.{AreSources, IsOneSource, IsSpec}
 use Rattle.image_specs.specs.declared.specs.ImageSpec.{ImageSpec}
 use Rattle.image_specs.specs.declared.specs.Source.{Source}
-use Rattle.outside.specs.Files.{OthersStay, Tree, bytes_of}
-use Rattle.outside.specs.declared.files.ComposeFault.{ComposeFault}
+use Rattle.outside.specs.Files.{OthersStay, Tree}
 use Rattle.placement_rules.specs.declared.faults.PlaceFault.TheVariants.{TooFar}
-use Rattle.sparse_writer.specs.Answers.{IsRefusal, Writes}
-use Rattle.build_job.specs.Faults.{IsChildRefused, IsComposeCounted, IsCoverRefused, IsSparseRefused}
+use Rattle.sparse_writer.specs.Answers.{Writes}
 use Rattle.build_job.specs.Said.{first_source, sparse_said}
-use Rattle.build_job.specs.declared.faults.BuildFault.{BuildFault}
-use Rattle.build_job.specs.declared.faults.BuildFault.TheVariants.{Plan, Compose, Measure, NoMemory}
-use Rattle.build_job.proofs.Measured.{IsRead, none_lacks, read_by}
+use Rattle.build_job.proofs.Measured.{IsRead, read_by}
 
 -- ---- its one source
 
-pub has_one : (spec : ImageSpec) → IsSpec spec → spec.kind ≡ kind.Sparse → IsOneSource spec.sources
-has_one spec sound is = subst (λ (k : Kind). AreSources k spec.keys.parts spec.sources) is sound.sources
-
-pub only_one : (sources : List Source) (source : Source) → length sources ≡ 1 → source ≡ slice_index_or sources 0 source
-    → sources ≡ source ∷ []
-only_one [] source one is = absurd (omega arith)
-only_one (first ∷ []) source one is = ap (λ (s : Source). s ∷ []) (sym is)
-only_one (first ∷ second ∷ rest) source one is = absurd (omega arith)
-
--- what holds of all holds of it
-pub of_one : (P : Source → Type 0) (sources : List Source) (source : Source) → sources ≡ source ∷ [] → All P sources
-    → P source
-of_one P sources source one all = All-head P source [] (subst (All P) one all)
-
-pub first_is : (spec : ImageSpec) (source : Source) → spec.sources ≡ source ∷ [] → first_source spec ≡ source
+first_is : (spec : ImageSpec) (source : Source) → spec.sources ≡ source ∷ [] → first_source spec ≡ source
 first_is spec source one = ap (λ (ss : List Source). slice_index_or ss 0 (record { file = None; child = None })) one
-
-pub names_differ : (spec : ImageSpec) (source : Source) (name : List ℕ) → spec.sources ≡ source ∷ []
-    → source.file ≡ Some name → IsWithout spec.full spec → name ≢ spec.full
-names_differ spec source name one named own same =
-    of_one (λ s. s.file ≢ Some spec.full) spec.sources source one own (named ∙ ap Some same)
 
 -- ---- its length
 
