@@ -1,5 +1,5 @@
 -- The items of a bmap 2.0 document: which one stands at the front of a text, and how long it is.
-use Rattle.std.specs.Prelude.{◌≡◌, ℕ, ◌+◌, nat_lt, List, [], ◌∷◌, drop, codes, Option, Some, None, option_map}
+use Rattle.std.specs.Prelude.{◌≡◌, ℕ, ◌+◌, ◌<◌, ◌≤◌, nat_lt, List, [], ◌∷◌, length, drop, codes, Option, Some, None, option_map}
 use Rattle.std.specs.Prelude.{if◌then◌else◌}
 use Rattle.std.specs.Str.{bytes_eq}
 use Rattle.block_map.specs.declared.maps.Range.{Range}
@@ -129,7 +129,10 @@ element_at text = or_next (range_at text) (or_next (count_at text) (or_next (typ
 abbrev pub piece_of : List ℕ → Option Piece
 piece_of text = or_next (blank_at text) (or_next (tag_at text) (element_at text))
 
--- the text is these items, one behind another
+-- the text is these items, one behind another: each has bytes, and they are the text's
+abbrev pub IsAtFront : List ℕ → Piece → Type 0
+IsAtFront text p = (piece_of text ≡ Some p) × (0 < p.len) × (p.len ≤ length text)
+
 abbrev pub AreItems : List ℕ → List Piece → Type 0
 AreItems text [] = text ≡ []
-AreItems text (p ∷ ps) = (piece_of text ≡ Some p) × AreItems (drop p.len text) ps
+AreItems text (p ∷ ps) = IsAtFront text p × AreItems (drop p.len text) ps

@@ -1,0 +1,4 @@
+-- lemmas
+pub mod Refusals
+pub mod Items
+pub mod Holding
