@@ -26,7 +26,7 @@ enough_blocks want got = when (nat_le got want) tt (BadCounts want got)
 
 -- SHA-256 of the text with 64 zeros for the digits of its sum
 unfoldable pub sum_of : List ℕ → ℕ → List ℕ
-sum_of text at = sha256 (take at text ++ (replicate 64 48 ++ drop (at + 64) text))
+sum_of text at = sha256 (take at text ++ replicate 64 48 ++ drop (at + 64) text)
 
 abbrev pub same_sum : List ℕ → List ℕ → Result (Unit {0}) MapFault
 same_sum want got = when (bytes_eq want got) tt (SumDiffers want got)

@@ -91,11 +91,18 @@ abbrev pub element_of : List ℕ → List ℕ → List ℕ → Option Held
 element_of opening closing text = tag_len opening text >>= λ n. moved n (valued closing (drop n text))
 
 -- a value in double or single quotes: the bytes before the next such quote
+abbrev pub is_quote : ℕ → Bool
+is_quote b = b == 34 || b == 39
+
+abbrev pub between_quotes : ℕ → Held
+between_quotes n = record { at = 1; count = n; len = n + 2 }
+
+abbrev pub closed : ℕ → List ℕ → Option Held
+closed quote rest = option_map between_quotes (position (λ b. b == quote) rest)
+
 abbrev pub quoted : List ℕ → Option Held
 quoted [] = None
-quoted (q ∷ rest) =
-    if q == 34 || q == 39 then option_map (λ n. record { at = 1; count = n; len = n + 2 }) (position (λ b. b == q) rest)
-    else None
+quoted (b ∷ rest) = if is_quote b then closed b rest else None
 
 -- `=` and a value in quotes, with white space before each
 abbrev pub spaced_quoted : List ℕ → Option Held

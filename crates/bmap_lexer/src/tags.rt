@@ -1,29 +1,40 @@
 //! Tags with an attribute.
 ghost use Rattle.std.specs.Prelude.{◌≡◌, ◌+◌, ◌<◌, ◌≤◌, IfSome, length};
-ghost use Rattle.bmap_grammar.specs.Text.{assigned, attribute_of, ended, quoted, sign_quoted, spaced_quoted, tag_with};
+ghost use Rattle.bmap_grammar.specs.Text.{assigned, attribute_of, closed, ended, is_quote, quoted, sign_quoted, spaced_quoted, tag_with};
 ghost use Rattle.bmap_lexer.specs.Within.{IsFrom, IsWithin};
 
 use crate::marks::{end_length, first_place, spaces};
 use crate::values::moved;
 use bmap_grammar::Held;
 
-// A value in quotes.
-fn quoted(text: &[u8]) -> Option<Held>
-    ensures there { result ≡ quoted text.now }
-    ensures within { IfSome result (IsWithin text.now) }
+fn is_quote(b: u8) -> bool
+    ensures { result ≡ is_quote b }
 {
-    let [quote, rest @ ..] = text else {
-        return None;
-    };
-    if *quote != b'"' && *quote != b'\'' {
-        return None;
-    }
-    let count = first_place(rest, *quote)?;
+    matches!(b, b'"' | b'\'')
+}
+
+// The value before the next such quote, behind one.
+fn closed(rest: &[u8], quote: u8) -> Option<Held>
+    ensures there { result ≡ closed quote rest.now }
+    ensures within { IfSome result (λ h. (h.at + h.count ≤ h.len) × (h.len ≤ length rest.now + 1)) }
+{
+    let count = first_place(rest, quote)?;
     Some(Held {
         at: 1,
         count,
         len: count + 2,
     })
+}
+
+// A value in quotes.
+fn quoted(text: &[u8]) -> Option<Held>
+    ensures there { result ≡ quoted text.now }
+    ensures within { IfSome result (IsWithin text.now) }
+{
+    match text {
+        [quote, rest @ ..] if is_quote(*quote) => closed(rest, *quote),
+        _ => None,
+    }
 }
 
 // White space and a value in quotes.

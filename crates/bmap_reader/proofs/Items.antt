@@ -8,6 +8,7 @@ use Rattle.bmap_grammar.specs.declared.faults.MapFault.{MapFault}
 use Rattle.bmap_grammar.specs.declared.faults.MapFault.TheVariants.{BadMap}
 use Rattle.bmap_grammar.specs.declared.items.Piece.{Piece}
 use Rattle.bmap_grammar.specs.declared.stood.Stood.{Stood}
+use Rattle.bmap_reader.specs.Holds.{HasItems}
 use Rattle.bmap_reader.proofs.Refusals.{refuses_along, refuses_bind}
 
 place_same : (at to : ℕ) (s : Stood) (n : ℕ) (rest : List ℕ) → at ≡ to → stood_from at s n rest ≡ stood_from to s n rest
@@ -74,10 +75,6 @@ pub no_item : (at : ℕ) (s : Stood) (text rest : List ℕ) → 0 < length rest 
 no_item at s text rest some e so = so ∙ none_at at s rest some e
 
 -- ---- the list of the items
-
--- the text is items, behind which this has stood
-abbrev pub HasItems : List ℕ → Stood → Type 0
-HasItems text s = (ps : List Piece) × AreItems text ps × (stood_behind 0 nothing ps ≡ Ok s)
 
 -- it is, where the rest is items that stand behind what has stood
 abbrev pub Continues : List ℕ → ℕ → Stood → List ℕ → Type 0

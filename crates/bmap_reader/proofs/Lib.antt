@@ -1,4 +1,6 @@
 -- lemmas
-pub mod Refusals
-pub mod Items
 pub mod Holding
+pub mod Items
+pub mod Maps
+pub mod Refusals
+pub mod Said

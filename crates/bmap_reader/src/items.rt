@@ -2,7 +2,7 @@
 ghost use Rattle.std.specs.Prelude.{◌≡◌, ◌+◌, ◌<◌, ◌≤◌, IfOk, length};
 ghost use Rattle.bmap_grammar.specs.Document.{Answers, stood_from};
 ghost use Rattle.bmap_grammar.specs.Stood.{nothing};
-ghost use Rattle.bmap_reader.specs.Holds.{IsStood};
+ghost use Rattle.bmap_reader.specs.Holds.{HasItems, IsStood};
 
 use crate::standing::{nothing, stand};
 use bmap_grammar::{MapFault, Stood};
@@ -12,6 +12,7 @@ use std::alloc::Global;
 /// What has stood in a text. Takes memory. It looks at each byte a fixed number of times.
 pub(crate) fn read_items(alloc: Global, text: &[u8]) -> Result<Stood, MapFault>
     ensures answers { Answers (stood_from 0 nothing 0 text.now) result }
+    ensures items { IfOk result (HasItems text.now) }
     ensures holds { IfOk result (IsStood (length text.now)) }
 {
     let mut stood = nothing(alloc);

@@ -10,10 +10,10 @@ pub(crate) fn next_of(ranges: &[Range]) -> u64
     requires { AreBelow ranges.now }
     ensures { result ≡ next_of ranges.now }
 {
-    if ranges.is_empty() {
-        return 0;
+    match ranges.last() {
+        Some(range) => range.last + 1,
+        None => 0,
     }
-    ranges[ranges.len() - 1].last + 1
 }
 
 /// Whether a range may stand behind these.

@@ -1,5 +1,5 @@
 //! What has stood in a text, item by item.
-ghost use Rattle.std.specs.Prelude.{IsTrue, ◌≡◌, ◌+◌, ◌-◌, ◌^◌, ◌<◌, ◌≤◌, ◌&&◌, [], ◌∷◌, ◌++◌, not, is_some, length, IfSome, Ok, Err, Some};
+ghost use Rattle.std.specs.Prelude.{IsTrue, ◌≡◌, ◌+◌, ◌-◌, ◌^◌, ◌<◌, ◌≤◌, ◌&&◌, [], ◌∷◌, ◌++◌, not};
 ghost use Rattle.base_fields.specs.Results.{when};
 ghost use Rattle.bmap_grammar.specs.Document.{Answers, Refuses};
 ghost use Rattle.bmap_grammar.specs.Stood.{blank_behind, is_behind, is_first, is_front, is_inside, is_map, may_block, may_end, may_follow};
@@ -77,13 +77,20 @@ fn blank_behind(stage: Stage) -> Stage
 
 /// The stage, where it is right here.
 fn entered(mut stood: Stood, at: u64, right: bool, stage: Stage) -> Result<Stood, MapFault>
-    ensures { result ≡ when right (record stood { stage = stage }) (MapFault.BadMap at) }
+    ensures { Answers (when right (record stood { stage = stage }) (MapFault.BadMap at)) result }
 {
     if !right {
         return Err(MapFault::BadMap { place: at });
     }
     stood.stage = stage;
     Ok(stood)
+}
+
+/// Whether an element may stand here that has stood already or not.
+fn is_free(stage: Stage, taken: bool) -> bool
+    ensures { result ≡ (is_inside stage && not taken) }
+{
+    is_inside(stage) && !taken
 }
 
 fn may_size(stood: &Stood, n: u64) -> bool
@@ -93,7 +100,7 @@ fn may_size(stood: &Stood, n: u64) -> bool
 }
 
 fn size(mut stood: Stood, at: u64, n: u64) -> Result<Stood, MapFault>
-    ensures { result ≡ number_stands at stood Field.ImageSize n }
+    ensures { Answers (number_stands at stood Field.ImageSize n) result }
 {
     if !may_size(&stood, n) {
         return Err(MapFault::BadMap { place: at });
@@ -114,7 +121,7 @@ fn may_block(stood: &Stood, n: u64) -> bool
 }
 
 fn block(mut stood: Stood, at: u64, n: u64) -> Result<Stood, MapFault>
-    ensures { result ≡ number_stands at stood Field.BlockSize n }
+    ensures { Answers (number_stands at stood Field.BlockSize n) result }
 {
     if !may_block(&stood, n) {
         return Err(MapFault::BadMap { place: at });
@@ -124,9 +131,9 @@ fn block(mut stood: Stood, at: u64, n: u64) -> Result<Stood, MapFault>
 }
 
 fn blocks(mut stood: Stood, at: u64, n: u64) -> Result<Stood, MapFault>
-    ensures { result ≡ number_stands at stood Field.BlocksCount n }
+    ensures { Answers (number_stands at stood Field.BlocksCount n) result }
 {
-    if !is_inside(stood.stage) || stood.blocks.is_some() {
+    if !is_free(stood.stage, stood.blocks.is_some()) {
         return Err(MapFault::BadMap { place: at });
     }
     stood.blocks = Some(n);
@@ -134,9 +141,9 @@ fn blocks(mut stood: Stood, at: u64, n: u64) -> Result<Stood, MapFault>
 }
 
 fn mapped(mut stood: Stood, at: u64, n: u64) -> Result<Stood, MapFault>
-    ensures { result ≡ number_stands at stood Field.MappedBlocksCount n }
+    ensures { Answers (number_stands at stood Field.MappedBlocksCount n) result }
 {
-    if !is_inside(stood.stage) || stood.mapped.is_some() {
+    if !is_free(stood.stage, stood.mapped.is_some()) {
         return Err(MapFault::BadMap { place: at });
     }
     stood.mapped = Some(n);
@@ -145,7 +152,7 @@ fn mapped(mut stood: Stood, at: u64, n: u64) -> Result<Stood, MapFault>
 
 /// An element whose value is a number.
 fn number(stood: Stood, at: u64, field: Field, n: u64) -> Result<Stood, MapFault>
-    ensures { result ≡ number_stands at stood field n }
+    ensures { Answers (number_stands at stood field n) result }
 {
     match field {
         Field::ImageSize => size(stood, at, n),
@@ -158,12 +165,12 @@ fn number(stood: Stood, at: u64, field: Field, n: u64) -> Result<Stood, MapFault
 fn may_type(stood: &Stood) -> bool
     ensures { result ≡ may_type stood.now }
 {
-    is_inside(stood.stage) && !stood.typed
+    is_free(stood.stage, stood.typed)
 }
 
 /// The element that names SHA-256.
 fn type_named(mut stood: Stood, at: u64) -> Result<Stood, MapFault>
-    ensures { result ≡ stands at stood Item.ChecksumType }
+    ensures { Answers (stands at stood Item.ChecksumType) result }
 {
     if !may_type(&stood) {
         return Err(MapFault::BadMap { place: at });
@@ -172,9 +179,9 @@ fn type_named(mut stood: Stood, at: u64) -> Result<Stood, MapFault>
     Ok(stood)
 }
 
-/// The fault of a version or a digest that is another, where the item itself is right.
+/// The fault of another digest, where the element may stand here.
 fn other_type(stood: &Stood, at: u64) -> MapFault
-    ensures { Err result ≡ stands at stood.now Item.OtherType }
+    ensures { Refuses (stands at stood.now Item.OtherType) result }
 {
     if may_type(stood) {
         MapFault::OtherDigest { place: at }
@@ -183,8 +190,9 @@ fn other_type(stood: &Stood, at: u64) -> MapFault
     }
 }
 
+/// The fault of another version, where the tag may stand here.
 fn other_start(stood: &Stood, at: u64) -> MapFault
-    ensures { Err result ≡ stands at stood.now Item.OtherStart }
+    ensures { Refuses (stands at stood.now Item.OtherStart) result }
 {
     if is_front(stood.stage) {
         MapFault::OtherVersion { place: at }
@@ -196,9 +204,9 @@ fn other_start(stood: &Stood, at: u64) -> MapFault
 /// The element with the text's sum.
 fn sum(mut stood: Stood, at: u64, place: usize, digest: [u8; 32]) -> Result<Stood, MapFault>
     requires { at + place < 2 ^ 64 }
-    ensures { result ≡ sum_stands at stood place digest }
+    ensures { Answers (sum_stands at stood place digest) result }
 {
-    if !is_inside(stood.stage) || stood.sum.is_some() {
+    if !is_free(stood.stage, stood.sum.is_some()) {
         return Err(MapFault::BadMap { place: at });
     }
     let at = at + place as u64;
@@ -208,9 +216,9 @@ fn sum(mut stood: Stood, at: u64, place: usize, digest: [u8; 32]) -> Result<Stoo
 
 /// The opening tag of the block map.
 fn map_start(mut stood: Stood, at: u64) -> Result<Stood, MapFault>
-    ensures { result ≡ stands at stood Item.MapStart }
+    ensures { Answers (stands at stood Item.MapStart) result }
 {
-    if !is_inside(stood.stage) || stood.begun {
+    if !is_free(stood.stage, stood.begun) {
         return Err(MapFault::BadMap { place: at });
     }
     stood.stage = Stage::Map;
@@ -218,12 +226,19 @@ fn map_start(mut stood: Stood, at: u64) -> Result<Stood, MapFault>
     Ok(stood)
 }
 
+fn may_range(stood: &Stood, range: Range) -> bool
+    requires { AreBelow stood.now.ranges }
+    ensures { result ≡ (is_map stood.now.stage && may_follow stood.now.ranges range) }
+{
+    is_map(stood.stage) && may_follow(stood.ranges.as_slice(), range)
+}
+
 /// A range. Takes memory.
 fn range(mut stood: Stood, at: u64, range: Range) -> Result<Stood, MapFault>
     requires { AreBelow stood.ranges }
     ensures { Answers (range_stands at stood range) result }
 {
-    if !is_map(stood.stage) || !may_follow(stood.ranges.as_slice(), range) {
+    if !may_range(&stood, range) {
         return Err(MapFault::BadMap { place: at });
     }
     stood.ranges.push(range)?;
