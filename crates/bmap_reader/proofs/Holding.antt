@@ -1,6 +1,6 @@
 -- What holds of what has stood goes on holding.
 use Rattle.std.proofs.Common.{◌≡◌, ℕ, ◌+◌, ◌-◌, ◌^◌, ◌<◌, ◌≤◌, Bool, true, false, ◌&&◌, not, nat_le, nat_lt, Option, Some, None}
-use Rattle.std.proofs.Common.{is_some, Ok, List, [], ◌∷◌, ◌++◌, length, get_or, slice_get, arith, ap, subst, length-append}
+use Rattle.std.proofs.Common.{is_some, Ok, List, [], ◌∷◌, ◌++◌, length, get_or, slice_get, arith, ap, subst, sym, length-append}
 use Rattle.std.proofs.lemmas.Bool.{leb-true, ltb-true}
 use Rattle.std.proofs.lemmas.List.Elements.{All-append, All-nil}
 use Rattle.std.proofs.lemmas.Option.{slice_get-get_or}
@@ -13,7 +13,6 @@ use Rattle.block_map.specs.Maps.{Follows, max_ranges}
 use Rattle.block_map.specs.declared.maps.Range.{Range}
 use Rattle.bmap_grammar.specs.Stood.{blank_behind, block_behind, is_first, is_front, is_inside, is_map, may_block, may_end}
 use Rattle.bmap_grammar.specs.Stood.{may_follow, may_size, may_type, next_of, nothing, number_stands, stands}
-use Rattle.bmap_grammar.specs.declared.faults.MapFault.{MapFault}
 use Rattle.bmap_grammar.specs.declared.faults.MapFault.TheVariants.{BadMap}
 use Rattle.bmap_grammar.specs.declared.items.Field.{Field}
 use Rattle.bmap_grammar.specs.declared.items.Field.TheVariants as field
@@ -30,9 +29,6 @@ plain : (n : ℕ) (s : Stood) (stage : Stage) (typed begun : Bool) (blocks mappe
     IsStood n (record s { stage = stage; typed = typed; begun = begun; blocks = blocks; mapped = mapped })
 plain n s stage typed begun blocks mapped h =
     record { ranges = h.ranges; below = h.below; few = h.few; size = h.size; block = h.block; sum = h.sum }
-
-same_ok : (x y : Stood) → Ok {E = MapFault} x ≡ Ok y → x ≡ y
-same_ok x y e = cc
 
 -- a range that may follow
 follows : (rs : List Range) (r : Range) → next_of rs ≤ r.first → Follows rs r
@@ -113,7 +109,7 @@ staged n s stage h = plain n s stage s.typed s.begun s.blocks s.mapped h
 pub stands_hold : (n at len : ℕ) (s after : Stood) (i : Item) → HasRoom len i → at + len ≤ n → IsStood n s →
     stands at s i ≡ Ok after → IsStood n after
 stands_hold n at len s after item.Blank room lies h e =
-    subst (IsStood n) (same_ok _ after e) (staged n s (blank_behind s.stage) h)
+    then_holds n at true (record s { stage = blank_behind s.stage }) after (λ t. staged n s (blank_behind s.stage) h) e
 stands_hold n at len s after item.Declaration room lies h e =
     then_holds n at (is_first s.stage) _ after (λ t. staged n s Front h) e
 stands_hold n at len s after item.Start room lies h e =
@@ -137,7 +133,7 @@ stands_hold n at len s after item.End room lies h e =
     then_holds n at (may_end s) _ after (λ t. staged n s Behind h) e
 
 -- before the first item
-pub nothing_holds : (n : ℕ) → IsStood n nothing
+nothing_holds : (n : ℕ) → IsStood n nothing
 nothing_holds n = record {
   ranges = record { filled = All-nil _; ascend = λ i j d before below. absurd (omega arith) };
   below = All-nil _;
@@ -146,3 +142,6 @@ nothing_holds n = record {
   block = tt;
   sum = tt;
 }
+
+pub begun_holds : (n : ℕ) (s : Stood) → s ≡ nothing → IsStood n s
+begun_holds n s e = subst (IsStood n) (sym e) (nothing_holds n)

@@ -1,6 +1,6 @@
 -- lemmas
 pub mod Holding
-pub mod Items
+pub mod Pieces
 pub mod Maps
 pub mod Refusals
 pub mod Said

@@ -1,6 +1,6 @@
 -- What holds of the map of a text.
-use Rattle.std.proofs.Common.{◌≡◌, ℕ, ◌+◌, ◌-◌, ◌*◌, ◌^◌, ◌<◌, ◌≤◌, Bool, true, false, nat_eq, nat_le, Option, Some, None, IfSome}
-use Rattle.std.proofs.Common.{Result, Ok, Err, List, length, get_or, slice_get, arith, ap, refl, subst, ◌∙◌}
+use Rattle.std.proofs.Common.{◌≡◌, ℕ, ◌+◌, ◌-◌, ◌*◌, ◌^◌, ◌<◌, ◌≤◌, Bool, true, false, nat_eq, nat_le, Option, Some, None, IfOk, IfSome, if◌then◌else◌}
+use Rattle.std.proofs.Common.{Result, Ok, Err, List, length, get_or, slice_get, arith, ap, refl, subst, sym, ◌∙◌}
 use Rattle.std.specs.Int.{div_ceil}
 use Rattle.std.proofs.lemmas.Bool.{eqb-true, leb-true}
 use Rattle.std.proofs.lemmas.Option.{slice_get-get_or}
@@ -15,6 +15,7 @@ use Rattle.bmap_grammar.specs.Document.{counted, enough_blocks, map_of, map_told
 use Rattle.bmap_grammar.specs.Stood.{block_behind, is_behind, next_of, said_by, told_of}
 use Rattle.bmap_grammar.specs.Text.{◌>>=◌}
 use Rattle.bmap_grammar.specs.declared.faults.MapFault.{MapFault}
+use Rattle.bmap_grammar.specs.declared.faults.MapFault.TheVariants.{BadMap}
 use Rattle.bmap_grammar.specs.declared.stood.Stood.{Stood}
 use Rattle.bmap_grammar.specs.declared.stood.Sum.{Sum}
 use Rattle.bmap_grammar.specs.declared.stood.Told.{Told}
@@ -25,7 +26,10 @@ bind_some : {A B : Type 0} (o : Option A) (f : A → Option B) (y : B) → (o >>
 bind_some None f y e = absurd (cc)
 bind_some (Some x) f y e = (x, refl, e)
 
-if_some : {A B : Type 0} (test : Bool) (o : Option A) (y : A) → (if test then o else None) ≡ Some y → o ≡ Some y
+same_some : (x y : Told) → Some x ≡ Some y → x ≡ y
+same_some x y e = cc
+
+if_some : {A : Type 0} (test : Bool) (o : Option A) (y : A) → (if test then o else None) ≡ Some y → o ≡ Some y
 if_some true o y e = e
 if_some false o y e = absurd (cc)
 
@@ -42,8 +46,7 @@ told_values s t e =
     let blocks = bind_some s.blocks _ t block.2 in
     let mapped = bind_some s.mapped _ t blocks.2 in
     let sum = bind_some s.sum _ t mapped.2 in
-    let is : Some (record { size = size.0; block = block.0; blocks = blocks.0; mapped = mapped.0; sum = sum.0 }) ≡ Some t = sum.2 in
-    let same : record { size = size.0; block = block.0; blocks = blocks.0; mapped = mapped.0; sum = sum.0 } ≡ t = cc in
+    let same = same_some (record { size = size.0; block = block.0; blocks = blocks.0; mapped = mapped.0; sum = sum.0 }) t sum.2 in
     record {
       size = size.1 ∙ ap (λ u. Some u.size) same;
       block = block.1 ∙ ap (λ u. Some u.block) same;
@@ -82,9 +85,14 @@ pub map_holds : (n : ℕ) (text : List ℕ) (s : Stood) (t : Told) (m : BlockMap
 map_holds n text s t m h told e =
     let right = bind_ok (counted t s.ranges) _ m e in
     let summed = bind_ok (same_sum t.sum.digest (sum_of text t.sum.at)) _ m right.2 in
-    let is : Ok {E = MapFault} (record { size = t.size; block = t.block; ranges = s.ranges }) ≡ Ok m = summed.2 in
-    let same : record { size = t.size; block = t.block; ranges = s.ranges } ≡ m = cc in
+    let same = when_ok true (record { size = t.size; block = t.block; ranges = s.ranges }) m (BadMap 0) summed.2 in
     let some : 0 < t.block = omega (arith, told.block.not_below) in
-    subst IsMap same
+    subst IsMap same.1
     (make (record { size = t.size; block = t.block; ranges = s.ranges }) h.ranges told.size told.block h.few
     (λ d there. ends_within t s.ranges right.0 some right.1 d there))
+
+-- an answer that is a map's
+pub map_keeps : (n : ℕ) (text : List ℕ) (s : Stood) (t : Told) (r : Result BlockMap MapFault) → IsStood n s →
+    IsTold n t → r ≡ map_told text s.ranges t → IfOk r (λ m. IsMap m)
+map_keeps n text s t (Ok m) h told is = map_holds n text s t m h told (sym is)
+map_keeps n text s t (Err fault) h told is = tt

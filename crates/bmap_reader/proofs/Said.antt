@@ -7,7 +7,7 @@ use Rattle.bmap_grammar.specs.Stood.{nothing}
 use Rattle.bmap_grammar.specs.declared.faults.MapFault.{MapFault}
 use Rattle.bmap_grammar.specs.declared.stood.Stood.{Stood}
 use Rattle.bmap_reader.specs.Holds.{HasItems}
-use Rattle.bmap_reader.proofs.Items.{said_by_items}
+use Rattle.bmap_reader.proofs.Pieces.{said_by_items}
 use Rattle.bmap_reader.proofs.Refusals.{answers_along, answers_same, refuses_bind}
 
 -- a document's map is what its text says

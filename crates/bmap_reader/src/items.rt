@@ -22,7 +22,8 @@ pub(crate) fn read_items(alloc: Global, text: &[u8]) -> Result<Stood, MapFault>
         let Some(piece) = first_piece(rest) else {
             return Err(MapFault::BadMap { place: at as u64 });
         };
-        stood = stand(stood, at as u64, piece)?;
+        let after = stand(stood, at as u64, piece)?;
+        stood = after;
         at += piece.len;
         rest = rest.split_at(piece.len).1;
     }

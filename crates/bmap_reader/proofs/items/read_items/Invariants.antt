@@ -2,7 +2,7 @@ use Rattle.std.proofs.Common.{◌≡◌, ◌+◌, length}
 use Rattle.bmap_grammar.specs.Document.{stood_from}
 use Rattle.bmap_grammar.specs.Stood.{nothing}
 use Rattle.bmap_reader.specs.Holds.{IsStood}
-use Rattle.bmap_reader.proofs.Items.{Continues}
+use Rattle.bmap_reader.proofs.Pieces.{Continues}
 use Rattle.bmap_reader.proofs.items.read_items.Given as goal
 
 -- what is left says what the whole text does

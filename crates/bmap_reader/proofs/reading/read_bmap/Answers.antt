@@ -1,3 +1,4 @@
+use Rattle.std.proofs.Common.{Err}
 use Rattle.bmap_reader.proofs.Said.{all_said, map_found, none_said, only_map}
 use Rattle.bmap_reader.proofs.reading.read_bmap.Goals as goal
 
@@ -19,4 +20,4 @@ returns-in-Err-clause-answers c = none_said c.args.text.now c.in-Err.fault c.in-
 
 pub returns-in-Err-clause-only : goal.returns-in-Err-clause-only
 returns-in-Err-clause-only c =
-    only_map c.args.text.now _ (none_said c.args.text.now c.in-Err.fault c.in-Err.ensures.answers)
+    only_map c.args.text.now (Err c.in-Err.fault) (none_said c.args.text.now c.in-Err.fault c.in-Err.ensures.answers)

@@ -1,5 +1,5 @@
 -- The items of a text, one behind another.
-use Rattle.std.proofs.Common.{◌≡◌, ℕ, zero, suc, ◌+◌, ◌-◌, ◌<◌, ◌≤◌, Option, Some, None, Result, Ok, Err, List, [], ◌∷◌, length, drop, arith, refl, ap, sym, ◌∙◌}
+use Rattle.std.proofs.Common.{◌≡◌, ℕ, zero, suc, ◌+◌, ◌-◌, ◌<◌, ◌≤◌, Option, Some, None, Result, Ok, Err, List, [], ◌∷◌, length, drop, arith, refl, ap, subst, sym, ◌∙◌}
 use Rattle.base_fields.specs.Results.{◌>>=◌}
 use Rattle.bmap_grammar.specs.Document.{Answers, Refuses, one_then, stood_behind, stood_from}
 use Rattle.bmap_grammar.specs.Items.{AreItems, piece_of}
@@ -81,8 +81,15 @@ abbrev pub Continues : List ℕ → ℕ → Stood → List ℕ → Type 0
 Continues text at s rest =
     (ps : List Piece) (end : Stood) → AreItems rest ps → stood_behind at s ps ≡ Ok end → HasItems text end
 
-pub continues : (text : List ℕ) → Continues text 0 nothing text
-continues text ps end are stood = (ps, (are, stood))
+continues : (text : List ℕ) → Continues text 0 nothing text
+continues text ps end are stood = (ps, are, stood)
+
+-- before the first one
+pub begun_same : (text : List ℕ) (s : Stood) → s ≡ nothing → stood_from 0 nothing 0 text ≡ stood_from 0 s 0 text
+begun_same text s e = ap (λ t. stood_from 0 t 0 text) (sym e)
+
+pub begun_on : (text : List ℕ) (s : Stood) → s ≡ nothing → Continues text 0 s text
+begun_on text s e = subst (λ t. Continues text 0 t text) (sym e) (continues text)
 
 pub continues_on : (text : List ℕ) (at : ℕ) (s after : Stood) (rest : List ℕ) (p : Piece) → 0 < p.len →
     p.len ≤ length rest → piece_of rest ≡ Some p → stands at s p.item ≡ Ok after → Continues text at s rest →
@@ -90,9 +97,10 @@ pub continues_on : (text : List ℕ) (at : ℕ) (s after : Stood) (rest : List �
 continues_on text at s after rest p low high e ok so ps end are stood =
     so (p ∷ ps) end ((e, low, high), are) (ap (λ r. r >>= λ a. stood_behind (at + p.len) a ps) ok ∙ stood)
 
-pub continued : (text : List ℕ) (at : ℕ) (s : Stood) (rest : List ℕ) → rest ≡ [] → Continues text at s rest →
+pub continued : (text : List ℕ) (at : ℕ) (s : Stood) (rest : List ℕ) → length rest ≡ 0 → Continues text at s rest →
     HasItems text s
-continued text at s rest none so = so [] s none refl
+continued text at s [] none so = so [] s refl refl
+continued text at s (b ∷ rest) none so = absurd (omega arith)
 
 -- the items of a text are what its bytes say
 items_say : (at : ℕ) (s : Stood) (text : List ℕ) (ps : List Piece) → AreItems text ps →
