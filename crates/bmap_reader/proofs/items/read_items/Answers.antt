@@ -21,14 +21,14 @@ loop-rest-preserved c =
     let fits = c.in-Some.ensures.within in
     record {
       same = rw c.split_at.ensures.back
-      (item_stands c.loop-rest.at c.loop-rest.stood c.in_ok-after.after text rest piece fits.0 fits.1
-      (sym c.in-Some.ensures.there) c.in_ok-after.ensures before.same);
+          (item_stands c.loop-rest.at c.loop-rest.stood c.in_ok-after.after text rest piece fits.0 fits.1
+          (sym c.in-Some.ensures.there) c.in_ok-after.ensures before.same);
       on = rw c.split_at.ensures.back
-      (continues_on text c.loop-rest.at c.loop-rest.stood c.in_ok-after.after rest piece fits.0 fits.1
-      (sym c.in-Some.ensures.there) c.in_ok-after.ensures before.on);
+          (continues_on text c.loop-rest.at c.loop-rest.stood c.in_ok-after.after rest piece fits.0 fits.1
+          (sym c.in-Some.ensures.there) c.in_ok-after.ensures before.on);
       len = omega arith;
       holds = stands_hold (length text) c.loop-rest.at piece.len c.loop-rest.stood c.in_ok-after.after piece.item
-      fits.2 (omega arith) before.holds c.in_ok-after.ensures;
+          fits.2 (omega arith) before.holds c.in_ok-after.ensures;
     }
 
 pub returns-in_err-after-clause-answers : goal.returns-in_err-after-clause-answers
