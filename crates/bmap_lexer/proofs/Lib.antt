@@ -1,0 +1,3 @@
+-- lemmas
+pub mod Digits
+pub mod Steps

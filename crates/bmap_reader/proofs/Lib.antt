@@ -1,0 +1,6 @@
+-- lemmas
+pub mod Holding
+pub mod Pieces
+pub mod Maps
+pub mod Refusals
+pub mod Said
