@@ -1,2 +1,3 @@
 -- lemmas
 mod Marks
+mod Pairs
