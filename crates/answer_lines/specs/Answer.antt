@@ -26,7 +26,7 @@ use Rattle.answer_lines.specs.declared.answer.Answer.TheVariants.{JournalForeign
 use Rattle.answer_lines.specs.declared.answer.Answer.TheVariants.{SizeDiffers, NoRoom, RangeDiffers}
 use Rattle.answer_lines.specs.declared.answer.Answer.TheVariants.{TargetDiffers}
 use Rattle.answer_lines.specs.declared.answer.Answer.TheVariants.{SourceShort, FileFault, DeviceFault, NandFault}
-use Rattle.answer_lines.specs.declared.answer.Answer.TheVariants.{NoMemory, PrintFault, NotBuilt}
+use Rattle.answer_lines.specs.declared.answer.Answer.TheVariants.{NoMemory, PrintFault}
 
 -- a field: its key and the bytes of its value
 abbrev named : List ℕ → List ℕ → List ℕ × List ℕ
@@ -136,7 +136,6 @@ row_of (DeviceFault dev) = row 10 (codes "DeviceFault") ((codes "dev", device_na
 row_of NandFault = row 10 (codes "NandFault") []
 row_of NoMemory = row 11 (codes "NoMemory") []
 row_of PrintFault = row 12 [] []
-row_of (NotBuilt name) = row 13 (codes "NotBuilt") (named (codes "name") name ∷ [])
 
 -- the status with which the program ends
 abbrev pub status_of : Answer → ℕ

@@ -321,10 +321,6 @@ pub enum Answer {
     NoMemory,
     /// The work was done, and a line of it was not printed.
     PrintFault,
-    /// The configuration of that name says more than is built today.
-    NotBuilt {
-        name: Name,
-    },
 }
 
 impl Answer {
@@ -570,7 +566,6 @@ impl Answer {
             Answer::NandFault => bare(10, "NandFault"),
             Answer::NoMemory => bare(11, "NoMemory"),
             Answer::PrintFault => bare(12, ""),
-            Answer::NotBuilt { name } => one(13, "NotBuilt", text("name", name)),
         }
     }
 }

@@ -336,9 +336,6 @@ fn file_answer(alloc: Global, kind: &str, words: &mut Arguments) -> Result<Optio
             want: read_digest(words)?,
             got: read_digest(words)?,
         },
-        "NotBuilt" => Answer::NotBuilt {
-            name: read_name(alloc, words)?,
-        },
         _ => return Ok(None),
     };
     Ok(Some(answer))
