@@ -101,13 +101,33 @@ fn answer_of_place(fault: PlaceFault) -> Answer
         PlaceFault::TooManyEntries { count } => Answer::TooManyEntries { count },
         PlaceFault::Misaligned { part, value, align } => Answer::Misaligned { part, value, align },
         PlaceFault::BadHoles { part, index } => Answer::BadHoles { part, index },
-        PlaceFault::BadAutoresize { part, room, least } => Answer::BadAutoresize { part, room, least },
+        PlaceFault::BadAutoresize { part, room, least } => Answer::BadAutoresize {
+            part,
+            room,
+            least,
+        },
         PlaceFault::FileTooLarge { part, has, limit } => Answer::FileTooLarge { part, has, limit },
         PlaceFault::NoSize { part } => Answer::NoSize { part },
-        PlaceFault::TooFar { part, number, limit } => Answer::TooFar { part, number, limit },
+        PlaceFault::TooFar {
+            part,
+            number,
+            limit,
+        } => Answer::TooFar {
+            part,
+            number,
+            limit,
+        },
         PlaceFault::Overlap { a, b } => Answer::Overlap { a, b },
         PlaceFault::ImageTooSmall { has, needs } => Answer::ImageTooSmall { has, needs },
-        PlaceFault::NotOnBlock { part, value, pebsize } => Answer::NotOnBlock { part, value, pebsize },
+        PlaceFault::NotOnBlock {
+            part,
+            value,
+            pebsize,
+        } => Answer::NotOnBlock {
+            part,
+            value,
+            pebsize,
+        },
         PlaceFault::PastFlash { part, end, limit } => Answer::PastFlash { part, end, limit },
         PlaceFault::NoMemory => Answer::NoMemory,
     }
@@ -153,7 +173,11 @@ fn answer_of_compose(alloc: Global, graph: &Graph, image: u32, fault: ComposeFau
     match fault {
         ComposeFault::Missing { part } => missing(alloc, file_at(graph, image, part as usize)),
         ComposeFault::FileFault => Answer::FileFault,
-        ComposeFault::SourceShort { part, at } => short(alloc, file_at(graph, image, part as usize), at),
+        ComposeFault::SourceShort { part, at } => short(
+            alloc,
+            file_at(graph, image, part as usize),
+            at,
+        ),
         ComposeFault::NoMemory => Answer::NoMemory,
     }
 }

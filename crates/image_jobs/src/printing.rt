@@ -61,20 +61,26 @@ fn print_built<P: Printer>(graph: &Graph, sizes: &[u64], out: &mut P) -> Result<
     ensures prints { Prints (report_lines graph.now sizes.now) (P.lines out.old) (P.lines out.new) (P.faults out.old) (P.faults out.new) }
     ensures none_fell { P.faults out.old ≤ P.faults out.new }
 {
-    print_images(graph, sizes, out)?;
+    print_images(graph, graph.order.as_slice(), sizes, out)?;
     print_count(sizes.len() as u64, out)?;
     Ok(())
 }
 
-fn print_images<P: Printer>(graph: &Graph, sizes: &[u64], out: &mut P) -> Result<(), PrintErr>
-    requires each { length sizes.now ≡ length graph.now.order }
+// The lines of the images of these numbers.
+fn print_images<P: Printer>(
+    graph: &Graph,
+    images: &[u32],
+    sizes: &[u64],
+    out: &mut P,
+) -> Result<(), PrintErr>
+    requires each { length sizes.now ≡ length images.now }
     ensures ok { OnOk result (P.faults out.new ≡ P.faults out.old) }
-    ensures printed { OnOk result (P.lines out.new ≡ all_added (P.lines out.old) (image_lines graph.now graph.now.order sizes.now)) }
+    ensures printed { OnOk result (P.lines out.new ≡ all_added (P.lines out.old) (image_lines graph.now images.now sizes.now)) }
     ensures failed { OnErr result (Rose (P.faults out.old) (P.faults out.new)) }
-    ensures front { OnErr result (PrintsFront (image_lines graph.now graph.now.order sizes.now) (P.lines out.old) (P.lines out.new)) }
+    ensures front { OnErr result (PrintsFront (image_lines graph.now images.now sizes.now) (P.lines out.old) (P.lines out.new)) }
     ensures none_fell { P.faults out.old ≤ P.faults out.new }
 {
-    for (place, image) in graph.order.as_slice().iter().enumerate() {
+    for (place, image) in images.iter().enumerate() {
         print_image(full_at(graph, *image), sizes[place], out)?;
     }
     Ok(())

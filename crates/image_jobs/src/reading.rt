@@ -27,14 +27,25 @@ pub enum ReadFault {
 fn with_paths(request: Request, conf: Conf) -> Conf
     ensures { result ≡ with_paths request conf }
 {
-    let mut conf = conf;
-    if let Some(path) = request.input {
-        conf.input = path;
+    let Request {
+        conf: _,
+        input,
+        output,
+    } = request;
+    let Conf {
+        input: own_input,
+        output: own_output,
+        flashes,
+        images,
+        texts,
+    } = conf;
+    Conf {
+        input: input.unwrap_or(own_input),
+        output: output.unwrap_or(own_output),
+        flashes,
+        images,
+        texts,
     }
-    if let Some(path) = request.output {
-        conf.output = path;
-    }
-    conf
 }
 
 /// The images that the request's configuration says, and their order. Takes memory.
