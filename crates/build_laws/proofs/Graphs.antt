@@ -1,13 +1,15 @@
--- The images of a graph, in its order: each stands behind its children, and a file that is taken ready is that of none.
+-- The images of a graph, in its order: each stands behind its children, and so behind what they are made from; a file
+-- that is taken ready is that of none.
 use Rattle.std.specs.Prelude.{◌≡◌, ◌≢◌, ℕ, zero, suc, ◌+◌, ◌<◌, ◌≤◌, ◌⊎◌, nat_eq, Bool, true, false, cond, List, []}
 use Rattle.std.specs.Prelude.{◌∷◌, ◌++◌, All, Contains, Option, Some, None, IfSome, count_by, length, slice_get}
-use Rattle.std.specs.Prelude.{slice_index_or, unwrap_or}
-use Rattle.std.specs.List.{cons_option, filter_map}
+use Rattle.std.specs.Prelude.{option_and_then, slice_index_or, unwrap_or}
+use Rattle.std.specs.List.{cons_option, filter_map, flat_map}
 use Rattle.std.specs.Option.{option_map}
 use Rattle.std.proofs.Common.{refl, ap, sym, subst, ◌∙◌, append_assoc, arith, inl, inr}
 use Rattle.std.proofs.lemmas.Bool.{cases_order, eq-eqb, eqb-true}
 use Rattle.std.proofs.lemmas.List.{length-map}
-use Rattle.std.proofs.lemmas.List.Elements.{All-cons, All-nil, Contains-get_or}
+use Rattle.std.proofs.lemmas.List.Elements.{All-append, All-cons, All-nil, Contains-append_right}
+use Rattle.std.proofs.lemmas.List.Elements.{Contains-get_or}
 use Rattle.std.proofs.lemmas.List.Kept.{AllPairs-cons}
 use Rattle.std.proofs.lemmas.List.Sums.{sum_by-append, sum_by-cons}
 use Rattle.std.proofs.lemmas.Option.{get_or_from_slice_get, slice_get-get_or, slice_get-map, slice_get_within}
@@ -22,8 +24,8 @@ use Rattle.image_specs.specs.declared.specs.ImageSpec.{ImageSpec}
 use Rattle.image_specs.specs.declared.specs.Source.{Source}
 use Rattle.image_specs.specs.Specs.{full_names}
 use Rattle.outside.specs.Files.{Tree}
-use Rattle.build_laws.specs.Builds.{BuildsTo, Built, IsBuilt}
-use Rattle.build_laws.specs.Order.{AreInOrder, IsWithout, ordered}
+use Rattle.build_laws.specs.Builds.{BuildsTo, Built, IsBuilt, child_in}
+use Rattle.build_laws.specs.Order.{AreInOrder, IsFreeOf, IsWithout, ordered, sources_in}
 use Rattle.build_laws.proofs.Afterwards.{built_afterwards}
 
 -- ---- numbers in a list
@@ -56,6 +58,14 @@ contains_last : (front : List ℕ) (x : ℕ) → Contains (front ++ x ∷ []) x
 contains_last [] x = contains_here x []
 contains_last (y ∷ front) x = contains_next y (front ++ x ∷ []) x (contains_last front x)
 
+split_at : (x : ℕ) (xs : List ℕ) (k : ℕ) → k < length xs → slice_index_or xs k x ≡ x
+    → (front : List ℕ) × (behind : List ℕ) × (xs ≡ front ++ (x ∷ behind))
+split_at x [] k below is = absurd (omega arith)
+split_at x (y ∷ ys) zero below is = ([], ys, ap (λ (z : ℕ). z ∷ ys) is)
+split_at x (y ∷ ys) (suc k) below is =
+    let rest : (front : List ℕ) × (behind : List ℕ) × (ys ≡ front ++ (x ∷ behind)) = split_at x ys k (omega arith) is in
+    (y ∷ rest.0, rest.1, ap (λ (zs : List ℕ). y ∷ zs) rest.2)
+
 -- names that are apart have one number each
 same_number : (names : List (List ℕ)) → AreApart names → (i j : ℕ) (name : List ℕ)
     → slice_get names i ≡ Some name → slice_get names j ≡ Some name → i ≡ j
@@ -69,12 +79,25 @@ same_number names apart i j name first second = by_order (cases_order i j)
     by_order (inr (inl less)) = absurd (apart i j name less (slice_get_within names j name second) same)
     by_order (inr (inr more)) = absurd (apart j i name more (slice_get_within names i name first) (sym same))
 
+-- ---- lists
+
+all_left : {X : Type 0} (P : X → Type 0) (xs ys : List X) → All P (xs ++ ys) → All P xs
+all_left P [] ys h = All-nil P
+all_left P (x ∷ xs) ys h =
+    All-cons P x xs (h 0 x (omega arith)) (all_left P xs ys (λ k d inside. h (suc k) d (omega arith)))
+
+all_flat : {X Y : Type 0} (P : Y → Type 0) (f : X → List Y) (xs : List X)
+    → ((k : ℕ) (d : X) → k < length xs → All P (f (slice_index_or xs k d))) → All P (flat_map f xs)
+all_flat P f [] h = All-nil P
+all_flat P f (x ∷ xs) h =
+    All-append P (f x) (flat_map f xs) (h 0 x (omega arith)) (all_flat P f xs (λ k d inside. h (suc k) d (omega arith)))
+
 -- ---- images in order
 
-none_in_order : AreInOrder []
-none_in_order = record {
+none_in_order : (all : List ImageSpec) → AreInOrder all []
+none_in_order all = record {
   apart = λ i j d less inside. absurd (omega arith);
-  own = All-nil (λ (spec : ImageSpec). IsWithout spec.full spec);
+  own = All-nil (λ (spec : ImageSpec). IsFreeOf all spec.full spec);
   later = λ i j d less inside. absurd (omega arith);
 }
 
@@ -85,14 +108,15 @@ names_apart name (spec ∷ rest) h =
     All-cons (λ (other : List ℕ). name ≢ other) spec.full (full_names rest) (h 0 spec (omega arith))
     (names_apart name rest (λ k d inside. h (suc k) d (omega arith)))
 
-one_more : (spec : ImageSpec) (rest : List ImageSpec) → AreInOrder rest → All (λ later. spec.full ≢ later.full) rest
-    → IsWithout spec.full spec → All (λ later. IsWithout later.full spec) rest → AreInOrder (spec ∷ rest)
-one_more spec rest behind apart own later = record {
+one_more : (all : List ImageSpec) (spec : ImageSpec) (rest : List ImageSpec) → AreInOrder all rest
+    → All (λ later. spec.full ≢ later.full) rest → IsFreeOf all spec.full spec
+    → All (λ later. IsFreeOf all later.full spec) rest → AreInOrder all (spec ∷ rest)
+one_more all spec rest behind apart own later = record {
   apart =
       AllPairs-cons (λ (a b : List ℕ). a ≢ b) spec.full (full_names rest)
       (names_apart spec.full rest apart) behind.apart;
-  own = All-cons (λ (s : ImageSpec). IsWithout s.full s) spec rest own behind.own;
-  later = AllPairs-cons (λ (s t : ImageSpec). IsWithout t.full s) spec rest later behind.later;
+  own = All-cons (λ (s : ImageSpec). IsFreeOf all s.full s) spec rest own behind.own;
+  later = AllPairs-cons (λ (s t : ImageSpec). IsFreeOf all t.full s) spec rest later behind.later;
 }
 
 -- ---- children
@@ -149,17 +173,23 @@ module _ (graph : Graph) (sound : IsGraph graph) where
         get_or_from_slice_get (full_names specs) image spec.full spec.full found,
       )
 
+  -- a child of an image stands before it
+  child_before : (front : List ℕ) (image : ℕ) (rest : List ℕ) → graph.order ≡ front ++ (image ∷ rest)
+      → (spec : ImageSpec) → slice_get specs image ≡ Some spec → (child : ℕ) → Contains (children_of spec) child
+      → Contains front child
+  child_before front image rest split spec there child made =
+      let made_at : Contains (children (families_of specs) image) child =
+      subst (λ (cs : List ℕ). Contains cs child) (sym (family_at image spec there)) made in
+      let all : All (Contains front) (children (families_of specs) image) =
+      sound.in_order.behind front image rest split in
+      subst (Contains front) made_at.2 (all made_at.0 child made_at.1)
+
   -- a number of the order from some place on isn't that of a child of the image that stands there
   no_child : (front : List ℕ) (image : ℕ) (rest : List ℕ) → graph.order ≡ front ++ (image ∷ rest)
       → (spec : ImageSpec) → slice_get specs image ≡ Some spec → (child : ℕ) → child < length specs
       → Contains (children_of spec) child → Contains (image ∷ rest) child → ⊥
   no_child front image rest split spec there child inside made among =
-      let made_at : Contains (children (families_of specs) image) child =
-      subst (λ (cs : List ℕ). Contains cs child) (sym (family_at image spec there)) made in
-      let all : All (Contains front) (children (families_of specs) image) =
-      sound.in_order.behind front image rest split in
-      let before : Contains front child =
-      subst (Contains front) made_at.2 (all made_at.0 child made_at.1) in
+      let before : Contains front child = child_before front image rest split spec there child made in
       twice child front (image ∷ rest) before among
       (ap (count_by (nat_eq child)) (sym split) ∙ stands_once child inside)
 
@@ -187,6 +217,40 @@ module _ (graph : Graph) (sound : IsGraph graph) where
           same_number (full_names specs) sound.fulls child j later.full (made.1 ∙ named) (name_at j later found) in
           no_child front image rest split spec there child made.0 (child_among spec.sources k d child inside is)
           (subst (Contains (image ∷ rest)) (sym same) among)
+
+  -- nor has a source of what is built for one of its sources: that image stands before it
+  module _ (front : List ℕ) (image : ℕ) (rest : List ℕ) (split : graph.order ≡ front ++ (image ∷ rest))
+      (spec : ImageSpec) (there : slice_get specs image ≡ Some spec) (j : ℕ) (later : ImageSpec) (among : Contains (image ∷ rest) j)
+      (found : slice_get specs j ≡ Some later) where
+    abbrev IsFree : Source → Type 0
+    IsFree source = source.file ≢ Some later.full
+
+    built_free : (child : ℕ) → Contains (children_of spec) child → (o : Option ImageSpec) → slice_get specs child ≡ o
+        → All IsFree (sources_in o)
+    built_free child made None none = All-nil IsFree
+    built_free child made (Some built) is =
+        let before : Contains front child = child_before front image rest split spec there child made in
+        let at : (first : List ℕ) × (behind : List ℕ) × (front ≡ first ++ (child ∷ behind)) =
+        split_at child front before.0 before.1 before.2 in
+        without at.0 child (at.1 ++ (image ∷ rest))
+        (split ∙ ap (λ (xs : List ℕ). xs ++ (image ∷ rest)) at.2 ∙ append_assoc at.0 (child ∷ at.1) (image ∷ rest))
+        built is j later
+        (contains_next child (at.1 ++ (image ∷ rest)) j (Contains-append_right at.1 (image ∷ rest) j among)) found
+
+    child_free : (o : Option ℕ) → ((child : ℕ) → o ≡ Some child → Contains (children_of spec) child)
+        → All IsFree (sources_in (option_and_then (slice_get specs) o))
+    child_free None made = All-nil IsFree
+    child_free (Some child) made = built_free child (made child refl) (slice_get specs child) refl
+
+    -- so it is made from the file of none that stands there or behind it
+    free : IsFreeOf specs later.full spec
+    free =
+        All-append IsFree spec.sources (flat_map (λ (source : Source). sources_in (child_in specs source)) spec.sources)
+        (without front image rest split spec there j later among found)
+        (all_flat IsFree (λ (source : Source). sources_in (child_in specs source)) spec.sources
+        (λ k d inside.
+        child_free (slice_index_or spec.sources k d).child
+        (λ child is. child_among spec.sources k d child inside is)))
 
   -- an image has no file of one behind it
   two_files : (front : List ℕ) (image : ℕ) (rest : List ℕ) → graph.order ≡ front ++ (image ∷ rest)
@@ -216,30 +280,32 @@ module _ (graph : Graph) (sound : IsGraph graph) where
       by_found (Some later) found behind =
           All-cons Q later (filter_map (slice_get specs) rest) (f j later (contains_here j rest) found) behind
 
-  from_place : (front rest : List ℕ) → graph.order ≡ front ++ rest → AreInOrder (filter_map (slice_get specs) rest)
-  from_place front [] split = none_in_order
+  from_place : (front rest : List ℕ) → graph.order ≡ front ++ rest
+      → AreInOrder specs (filter_map (slice_get specs) rest)
+  from_place front [] split = none_in_order specs
   from_place front (image ∷ rest) split =
       by_found (slice_get specs image) refl
       (from_place (front ++ image ∷ []) rest (split ∙ sym (append_assoc front (image ∷ []) rest)))
     where
-      by_found : (o : Option ImageSpec) → slice_get specs image ≡ o → AreInOrder (filter_map (slice_get specs) rest)
-          → AreInOrder (cons_option o (filter_map (slice_get specs) rest))
+      by_found : (o : Option ImageSpec) → slice_get specs image ≡ o
+          → AreInOrder specs (filter_map (slice_get specs) rest)
+          → AreInOrder specs (cons_option o (filter_map (slice_get specs) rest))
       by_found None none behind = behind
       by_found (Some spec) there behind =
-          one_more spec (filter_map (slice_get specs) rest) behind
+          one_more specs spec (filter_map (slice_get specs) rest) behind
           (among_rest (λ later. spec.full ≢ later.full) rest (two_files front image rest split spec there))
-          (without front image rest split spec there image spec (contains_here image rest) there)
-          (among_rest (λ later. IsWithout later.full spec) rest
+          (free front image rest split spec there image spec (contains_here image rest) there)
+          (among_rest (λ later. IsFreeOf specs later.full spec) rest
           (λ j later among found.
-          without front image rest split spec there j later (contains_next image rest j among) found))
+          free front image rest split spec there j later (contains_next image rest j among) found))
 
-  pub in_order : AreInOrder (ordered graph)
+  pub in_order : AreInOrder specs (ordered graph)
   in_order = from_place [] graph.order refl
 
-pub graphs_are_built : (graph : Graph) (before after : Tree) → IsGraph graph → BuildsTo (ordered graph) before after
-    → Built before (ordered graph) after
+pub graphs_are_built : (graph : Graph) (before after : Tree) → IsGraph graph
+    → BuildsTo graph.specs (ordered graph) before after → Built graph.specs before (ordered graph) after
 graphs_are_built graph before after sound builds =
-    built_afterwards (ordered graph) before after (in_order graph sound) builds
+    built_afterwards graph.specs (ordered graph) before after (in_order graph sound) builds
 
 -- ---- all images
 
@@ -278,15 +344,16 @@ named_among Q (spec ∷ specs) h name zero below is = subst Q is (h 0 spec (omeg
 named_among Q (spec ∷ specs) h name (suc k) below is =
     named_among Q specs (λ j d inside. h (suc j) d (omega arith)) name k (omega arith) is
 
-module _ (graph : Graph) (sound : IsGraph graph) (old new : Tree) (built : Built old (ordered graph) new) where
-  each_built : All (IsBuilt new) graph.specs
+module _ (graph : Graph) (sound : IsGraph graph) (old new : Tree)
+    (built : Built graph.specs old (ordered graph) new) where
+  each_built : All (IsBuilt graph.specs new) graph.specs
   each_built k d inside =
       let spec : ImageSpec = slice_index_or graph.specs k d in
       let once : count_by (nat_eq k) graph.order ≡ 1 = stands_once graph sound k inside in
       let stands : Contains graph.order k = found_counted k graph.order (omega arith) in
       let there : Contains (ordered graph) spec =
       ordered_at graph.specs graph.order k spec stands.0 stands.1 stands.2 (slice_get-get_or graph.specs k d inside) in
-      subst (IsBuilt new) there.2 (built.each there.0 spec there.1)
+      subst (IsBuilt graph.specs new) there.2 (built.each there.0 spec there.1)
 
   -- what is in order has no other names
   no_others : (name : List ℕ) → Contains (full_names (ordered graph)) name → Contains (full_names graph.specs) name
@@ -295,14 +362,14 @@ module _ (graph : Graph) (sound : IsGraph graph) (old new : Tree) (built : Built
       (among_rest graph sound (λ spec. Contains (full_names graph.specs) spec.full) graph.order
       (λ j later among found. named_at graph sound j later found)) name there.0 there.1 there.2
 
-  pub all_built : Built old graph.specs new
+  pub all_built : Built graph.specs old graph.specs new
   all_built = record {
     each = each_built;
     others = λ name none. built.others name (λ there. none (no_others name there));
   }
 
-pub none_left_out : (graph : Graph) (before after : Tree) → IsGraph graph → Built before (ordered graph) after
-    → Built before graph.specs after
+pub none_left_out : (graph : Graph) (before after : Tree) → IsGraph graph
+    → Built graph.specs before (ordered graph) after → Built graph.specs before graph.specs after
 none_left_out graph before after sound built = all_built graph sound before after built
 
 -- no image of a graph is made of its own file
@@ -313,4 +380,8 @@ none_of_own graph sound k d inside =
     let stands : Contains graph.order k = found_counted k graph.order (omega arith) in
     let there : Contains (ordered graph) spec =
     ordered_at graph.specs graph.order k spec stands.0 stands.1 stands.2 (slice_get-get_or graph.specs k d inside) in
-    subst (λ (s : ImageSpec). IsWithout s.full s) there.2 ((in_order graph sound).own there.0 spec there.1)
+    let free : IsFreeOf graph.specs spec.full spec =
+    subst (λ (s : ImageSpec). IsFreeOf graph.specs s.full s) there.2
+    ((in_order graph sound).own there.0 spec there.1) in
+    all_left (λ (source : Source). source.file ≢ Some spec.full) spec.sources
+    (flat_map (λ (source : Source). sources_in (child_in graph.specs source)) spec.sources) free

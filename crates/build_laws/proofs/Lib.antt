@@ -1,5 +1,6 @@
 -- lemmas
 mod Afterwards
 pub mod Graphs
+pub mod Served
 mod Sources
 pub mod Steps

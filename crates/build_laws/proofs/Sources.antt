@@ -1,6 +1,6 @@
 -- Where the files that an image is made of stay as they are, its layout is the same, and so are the bytes of it.
 use Rattle.std.specs.Prelude.{◌≡◌, ℕ, zero, suc, ◌+◌, ◌<◌, Bool, cond, List, [], ◌∷◌, Option, Some, None, is_none}
-use Rattle.std.specs.Prelude.{Result, Ok, Err, length, unwrap_or}
+use Rattle.std.specs.Prelude.{Ok, Err, length, unwrap_or}
 use Rattle.std.specs.List.{AllByRecursion, position_from}
 use Rattle.std.proofs.Common.{refl, ap, sym, subst, ◌∙◌, arith}
 use Rattle.std.proofs.lemmas.Iterator.Adapters.{position_from-zero}
@@ -16,11 +16,10 @@ use Rattle.image_layout.specs.declared.layout.Layout.{Layout}
 use Rattle.image_layout.specs.declared.layout.Placed.{Placed}
 use Rattle.image_parts.specs.Files.{part_of}
 use Rattle.image_plan.specs.Lengths.{first_absent, is_absent, is_lacking, length_of, length_under, lengths_of}
-use Rattle.image_plan.specs.Lengths.{lengths_said, unless_absent}
+use Rattle.image_plan.specs.Lengths.{unless_absent}
 use Rattle.image_plan.specs.Plans.{geometry_of, layout_by, layout_on, placed_said, plan_said, refusal_by}
 use Rattle.image_plan.specs.Plans.{unless_refused}
-use Rattle.image_plan.specs.declared.faults.PlanFault.{PlanFault}
-use Rattle.image_plan.specs.declared.faults.PlanFault.TheVariants.{Place}
+use Rattle.image_plan.specs.declared.faults.PlanFault.TheVariants.{Missing, Place}
 use Rattle.image_specs.specs.declared.specs.ImageSpec.{ImageSpec}
 use Rattle.image_specs.specs.declared.specs.Source.{Source}
 use Rattle.outside.specs.Files.{Tree, bytes_of}
@@ -106,23 +105,27 @@ parts_on before now None spec lens h =
 parts_on before now (Some flash) spec lens h =
     flash_parts before now spec.keys.parts spec.sources lens (places (geometry_of flash) spec.keys.parts lens) h
 
--- a layout that is said is one by some lengths
+-- a layout that is said is the one by the lengths of the sources' files
 by_refusal : (spec : ImageSpec) (lens : List ℕ) (layout : Layout) (refused : Option PlaceFault)
     → unless_refused refused (layout_by spec lens) ≡ Ok layout → layout ≡ layout_by spec lens
 by_refusal spec lens layout None h = let same : Ok (layout_by spec lens) ≡ Ok layout = h in cc
 by_refusal spec lens layout (Some fault) h = absurd (let no : Err (Place fault) ≡ Ok layout = h in cc)
 
-by_lengths : (spec : ImageSpec) (layout : Layout) (said : Result (List ℕ) PlanFault)
-    → (said >>= placed_said spec) ≡ Ok layout → (lens : List ℕ) × (layout ≡ layout_by spec lens)
-by_lengths spec layout (Ok lens) h = (lens, by_refusal spec lens layout (refusal_by spec lens) h)
-by_lengths spec layout (Err fault) h = absurd (let no : Err fault ≡ Ok layout = h in cc)
+by_absent : (spec : ImageSpec) (layout : Layout) (lens : List ℕ) (absent : Option ℕ)
+    → (unless_absent absent lens >>= placed_said spec) ≡ Ok layout → layout ≡ layout_by spec lens
+by_absent spec layout lens None h = by_refusal spec lens layout (refusal_by spec lens) h
+by_absent spec layout lens (Some source) h = absurd (let no : Err (Missing source) ≡ Ok layout = h in cc)
+
+pub layout_of_plan : (file : Tree) (spec : ImageSpec) (layout : Layout) → plan_said file spec ≡ Ok layout
+    → layout ≡ layout_by spec (lengths_of file spec.sources)
+layout_of_plan file spec layout plan =
+    by_absent spec layout (lengths_of file spec.sources) (first_absent file spec.sources) plan
 
 parts_stay : (before now : Tree) (spec : ImageSpec) (layout : Layout) → plan_said before spec ≡ Ok layout
     → SourcesStay before now spec.sources → PartsStay before now layout.parts
 parts_stay before now spec layout plan h =
-    let found : (lens : List ℕ) × (layout ≡ layout_by spec lens) =
-    by_lengths spec layout (lengths_said before spec.sources) plan in
-    subst (λ (l : Layout). PartsStay before now l.parts) (sym found.1) (parts_on before now spec.flash spec found.0 h)
+    subst (λ (l : Layout). PartsStay before now l.parts) (sym (layout_of_plan before spec layout plan))
+    (parts_on before now spec.flash spec (lengths_of before spec.sources) h)
 
 -- its file is the image's
 file_on : (flash : Option FlashSection) (spec : ImageSpec) (lens : List ℕ)
@@ -133,9 +136,8 @@ file_on (Some flash) spec lens = refl
 pub file_of_plan : (before : Tree) (spec : ImageSpec) (layout : Layout) → plan_said before spec ≡ Ok layout
     → layout.file ≡ spec.full
 file_of_plan before spec layout plan =
-    let found : (lens : List ℕ) × (layout ≡ layout_by spec lens) =
-    by_lengths spec layout (lengths_said before spec.sources) plan in
-    ap (λ (l : Layout). l.file) found.1 ∙ file_on spec.flash spec found.0
+    ap (λ (l : Layout). l.file) (layout_of_plan before spec layout plan)
+    ∙ file_on spec.flash spec (lengths_of before spec.sources)
 
 -- ---- the bytes
 

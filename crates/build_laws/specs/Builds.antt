@@ -1,6 +1,6 @@
 -- What a build does to files, image by image, and what stands when it is done.
-use Rattle.std.specs.Prelude.{◌≡◌, ℕ, ◌<◌, ◌≤◌, ◌^◌, List, [], ◌∷◌, Bool, All, Contains, Option, None, Some, Ok, IsOkAnd}
-use Rattle.std.specs.Prelude.{if◌then◌else◌, length, nat_lt, option_and_then, slice_get, slice_index}
+use Rattle.std.specs.Prelude.{◌≡◌, ℕ, ◌<◌, ◌≤◌, ◌^◌, List, [], ◌∷◌, Bool, true, false, All, Contains, Option, None}
+use Rattle.std.specs.Prelude.{Some, Ok, IsOkAnd, length, nat_lt, option_and_then, slice_get, slice_index}
 use Rattle.base_fields.specs.declared.spans.Span.{Span}
 use Rattle.conf_keys.specs.declared.conf.Kind.{Kind}
 use Rattle.conf_keys.specs.declared.conf.Kind.TheVariants as kind
@@ -24,8 +24,8 @@ pub record HasLayout (layout : Layout) (sources : Tree) (name : List ℕ) (file 
   pub size : length (bytes_of file name) ≡ layout.size
   pub each : (o : ℕ) → o < layout.size → slice_index (bytes_of file name) o ≡ byte_at layout (bytes_of sources) o
 
--- it is placed by the lengths of its sources' files, its parts and tables lie apart, its file has the layout's bytes, and
--- the tables in it read back as the layout has them
+-- it is placed by the lengths of its sources' files, its parts and tables lie apart, its file has the layout's bytes,
+-- and the tables in it read back as the layout has them
 pub record IsLaid (sources : Tree) (spec : ImageSpec) (file : Tree) : Type 0 where
   pub layout : Layout
   pub plan : plan_said sources spec ≡ Ok layout
@@ -47,11 +47,15 @@ IsWhole size cover = (o : ℕ) → covers cover o ≡ nat_lt o size
 abbrev pub IsCoverOf : List Span → Layout → Type 0
 IsCoverOf cover layout = (o : ℕ) → covers cover o ≡ is_covered layout o
 
+-- whether a built image is planned: those that its layout covers, and all of another one
+abbrev pub IsCoverBy : Bool → Tree → ℕ → List Span → ImageSpec → Type 0
+IsCoverBy true sources size cover child = IsOkAnd (plan_said sources child) (IsCoverOf cover)
+IsCoverBy false sources size cover child = IsWhole size cover
+
 -- of a built image that has a layout those that the layout covers, and all of another file
 abbrev pub IsCoverFor : Tree → ℕ → List Span → Option ImageSpec → Type 0
 IsCoverFor sources size cover None = IsWhole size cover
-IsCoverFor sources size cover (Some child) =
-    if is_planned child.kind then IsOkAnd (plan_said sources child) (IsCoverOf cover) else IsWhole size cover
+IsCoverFor sources size cover (Some child) = IsCoverBy (is_planned child.kind) sources size cover child
 
 -- its file is the sparse file of its one source's, with the offsets of that which count
 pub record IsSparse (all : List ImageSpec) (sources : Tree) (spec : ImageSpec) (file : Tree) : Type 0 where
