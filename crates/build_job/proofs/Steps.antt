@@ -1,21 +1,22 @@
 -- One image more of a graph.
-use Rattle.std.specs.Prelude.{◌≡◌, ℕ, zero, suc, ◌<◌, List, [], ◌∷◌, ◌++◌, Contains, Option, Some, None, length}
-use Rattle.std.specs.Prelude.{IsSomeAnd, slice_get, slice_index_or, take}
+use Rattle.std.specs.Prelude.{◌≡◌, ℕ, zero, suc, ◌<◌, List, [], ◌∷◌, ◌++◌, All, Contains, Option, Some, None, length}
+use Rattle.std.specs.Prelude.{slice_get, slice_index_or, take}
 use Rattle.std.specs.List.{cons_option, filter_map}
 use Rattle.std.proofs.Common.{refl, ap, sym, subst, ◌∙◌, arith}
 use Rattle.std.proofs.lemmas.List.{length-map}
+use Rattle.std.proofs.lemmas.List.Elements.{All-head, All-tail}
 use Rattle.std.proofs.lemmas.Option.{slice_get-get_or}
 use Rattle.build_laws.specs.Builds.{Builds, BuildsTo}
-use Rattle.build_laws.specs.Order.{IsWithout}
+use Rattle.build_laws.specs.Order.{IsWithout, ordered}
 use Rattle.build_laws.proofs.Graphs.{none_of_own}
 use Rattle.build_laws.proofs.Steps.{builds_more}
 use Rattle.image_graph.specs.Children.{children_of}
-use Rattle.image_graph.specs.IsGraph.{IsGraph}
+use Rattle.image_graph.specs.IsGraph.{IsGraph, IsMadeOf}
 use Rattle.image_graph.specs.declared.images.Graph.{Graph}
 use Rattle.image_specs.specs.declared.specs.ImageSpec.{ImageSpec}
 use Rattle.image_specs.specs.Specs.{full_names}
 use Rattle.outside.specs.Files.{OthersStay, Tree}
-use Rattle.build_job.specs.Faults.{IsRefused, IsStopped, image_of}
+use Rattle.build_job.specs.Faults.{IsRefused, IsStopped}
 use Rattle.build_job.specs.Files.{StayOutside}
 use Rattle.build_job.specs.declared.faults.BuildFault.{BuildFault}
 
@@ -34,19 +35,39 @@ taken_more specs (image ∷ order) (suc k) d inside =
     ∙ sym (cons_append (slice_get specs image) (filter_map (slice_get specs) (take k order))
     (cons_option (slice_get specs (slice_index_or order k d)) []))
 
+pub taken_at : (specs : List ImageSpec) (order : List ℕ) (k n d : ℕ) (spec : ImageSpec) → n ≡ suc k → k < length order
+    → slice_get specs (slice_index_or order k d) ≡ Some spec
+    → filter_map (slice_get specs) (take n order) ≡ filter_map (slice_get specs) (take k order) ++ spec ∷ []
+taken_at specs order k n d spec next_number inside there =
+    ap (λ (m : ℕ). filter_map (slice_get specs) (take m order)) next_number
+    ∙ taken_more specs order k d inside
+    ∙ ap (λ (o : Option ImageSpec). filter_map (slice_get specs) (take k order) ++ cons_option o []) there
+
 -- one more is built
 pub built_more : (specs : List ImageSpec) (order : List ℕ) (k n d : ℕ) (spec : ImageSpec) (before middle after : Tree)
     → n ≡ suc k → k < length order → slice_get specs (slice_index_or order k d) ≡ Some spec
-    → BuildsTo (filter_map (slice_get specs) (take k order)) before middle → Builds spec middle after
-    → BuildsTo (filter_map (slice_get specs) (take n order)) before after
+    → BuildsTo specs (filter_map (slice_get specs) (take k order)) before middle → Builds specs spec middle after
+    → BuildsTo specs (filter_map (slice_get specs) (take n order)) before after
 built_more specs order k n d spec before middle after next_number inside there built next =
-    let more : filter_map (slice_get specs) (take n order)
-    ≡ filter_map (slice_get specs) (take k order) ++ cons_option (Some spec) [] =
-    ap (λ (m : ℕ). filter_map (slice_get specs) (take m order)) next_number
-    ∙ taken_more specs order k d inside
-    ∙ ap (λ (o : Option ImageSpec). filter_map (slice_get specs) (take k order) ++ cons_option o []) there in
-    subst (λ (xs : List ImageSpec). BuildsTo xs before after) (sym more)
-    (builds_more (filter_map (slice_get specs) (take k order)) spec before middle after built next)
+    subst (λ (xs : List ImageSpec). BuildsTo specs xs before after)
+    (sym (taken_at specs order k n d spec next_number inside there))
+    (builds_more specs (filter_map (slice_get specs) (take k order)) spec before middle after built next)
+
+all_behind : (Q : ImageSpec → Type 0) (o : Option ImageSpec) (xs : List ImageSpec) → All Q (cons_option o xs) → All Q xs
+all_behind Q None xs all = all
+all_behind Q (Some x) xs all = All-tail Q x xs all
+
+-- what holds of the images in an order holds of that at a place of it
+of_ordered : (Q : ImageSpec → Type 0) (specs : List ImageSpec) (order : List ℕ) (k d : ℕ) (spec : ImageSpec)
+    → All Q (filter_map (slice_get specs) order) → k < length order
+    → slice_get specs (slice_index_or order k d) ≡ Some spec → Q spec
+of_ordered Q specs [] k d spec all inside there = absurd (omega arith)
+of_ordered Q specs (image ∷ order) zero d spec all inside there =
+    All-head Q spec (filter_map (slice_get specs) order)
+    (subst (λ (o : Option ImageSpec). All Q (cons_option o (filter_map (slice_get specs) order))) there all)
+of_ordered Q specs (image ∷ order) (suc k) d spec all inside there =
+    of_ordered Q specs order k d spec
+    (all_behind Q (slice_get specs image) (filter_map (slice_get specs) order) all) (omega arith) there
 
 -- an image's file is among the names
 pub full_there : (specs : List ImageSpec) (k : ℕ) (d : ImageSpec) → k < length specs
@@ -85,16 +106,29 @@ stands_at graph sound order specs k d spec same_order same_specs below is =
           ∙ ap (λ (xs : List ℕ). slice_index_or graph.specs (slice_index_or xs k d) spec) same_order);
     }
 
-found_at : (graph : Graph) (k d : ℕ) (spec : ImageSpec) → StandsAt graph k d spec
+pub found_at : (graph : Graph) (k d : ℕ) (spec : ImageSpec) → StandsAt graph k d spec
     → slice_get graph.specs (slice_index_or graph.order k d) ≡ Some spec
 found_at graph k d spec stands =
     slice_get-get_or graph.specs (slice_index_or graph.order k d) spec stands.inside ∙ ap Some stands.is
+
+-- what holds of the graph's images in its order holds of that one
+pub holds_at : (Q : ImageSpec → Type 0) (graph : Graph) (k d : ℕ) (spec : ImageSpec) → StandsAt graph k d spec
+    → All Q (ordered graph) → Q spec
+holds_at Q graph k d spec stands all =
+    of_ordered Q graph.specs graph.order k d spec all stands.below (found_at graph k d spec stands)
 
 pub own_at : (graph : Graph) → IsGraph graph → (k d : ℕ) (spec : ImageSpec) → StandsAt graph k d spec
     → IsWithout spec.full spec
 own_at graph sound k d spec stands =
     subst (λ (s : ImageSpec). IsWithout s.full s) stands.is
     (none_of_own graph sound (slice_index_or graph.order k d) spec stands.inside)
+
+-- its sources have the files of their images
+pub children_at : (graph : Graph) → IsGraph graph → (k d : ℕ) (spec : ImageSpec) → StandsAt graph k d spec
+    → All (IsMadeOf graph.specs) spec.sources
+children_at graph sound k d spec stands =
+    subst (λ (s : ImageSpec). All (IsMadeOf graph.specs) s.sources) stands.is
+    (sound.children (slice_index_or graph.order k d) spec stands.inside)
 
 pub others_at : (graph : Graph) (k d : ℕ) (spec : ImageSpec) (before middle after : Tree) → StandsAt graph k d spec
     → StayOutside (full_names graph.specs) before middle → OthersStay spec.full middle after
@@ -105,28 +139,28 @@ others_at graph k d spec before middle after stands behind next =
     (full_there graph.specs (slice_index_or graph.order k d) spec stands.inside)) behind next
 
 pub built_at : (graph : Graph) (k n d : ℕ) (spec : ImageSpec) (before middle after : Tree) → n ≡ suc k
-    → StandsAt graph k d spec → BuildsTo (filter_map (slice_get graph.specs) (take k graph.order)) before middle
-    → Builds spec middle after → BuildsTo (filter_map (slice_get graph.specs) (take n graph.order)) before after
+    → StandsAt graph k d spec
+    → BuildsTo graph.specs (filter_map (slice_get graph.specs) (take k graph.order)) before middle
+    → Builds graph.specs spec middle after
+    → BuildsTo graph.specs (filter_map (slice_get graph.specs) (take n graph.order)) before after
 built_at graph k n d spec before middle after next_number stands built next =
     built_more graph.specs graph.order k n d spec before middle after next_number stands.below
     (found_at graph k d spec stands) built next
 
 pub stopped_at : (graph : Graph) (order : List ℕ) (k d : ℕ) (spec : ImageSpec) (before middle after : Tree)
-    (fault : BuildFault) → order ≡ graph.order → StandsAt graph k d spec → image_of fault ≡ slice_index_or order k d
-    → BuildsTo (filter_map (slice_get graph.specs) (take k graph.order)) before middle
-    → IsRefused spec middle after fault → OthersStay spec.full middle after → IsStopped graph before after fault
-stopped_at graph order k d spec before middle after fault same_order stands image built refused others =
-    let is : image_of fault ≡ slice_index_or graph.order k d =
-    image ∙ ap (λ (xs : List ℕ). slice_index_or xs k d) same_order in
-    let found : slice_get graph.specs (image_of fault) ≡ Some spec =
-    ap (slice_get graph.specs) is ∙ found_at graph k d spec stands in
-    record {
-      place = k;
-      number = slice_get-get_or graph.order k d stands.below ∙ ap Some (sym is);
-      middle = middle;
-      built = built;
-      refused =
-          subst (λ (o : Option ImageSpec). IsSomeAnd o (λ s. IsRefused s middle after fault)) (sym found) refused;
-      others =
-          subst (λ (o : Option ImageSpec). IsSomeAnd o (λ s. OthersStay s.full middle after)) (sym found) others;
-    }
+    (fault : BuildFault) → order ≡ graph.order → StandsAt graph k d spec
+    → BuildsTo graph.specs (filter_map (slice_get graph.specs) (take k graph.order)) before middle
+    → IsRefused graph.specs (slice_index_or order k d) spec middle fault → OthersStay spec.full middle after
+    → IsStopped graph before after fault
+stopped_at graph order k d spec before middle after fault same_order stands built refused others = record {
+  place = k;
+  number = slice_index_or graph.order k d;
+  spec = spec;
+  at = slice_get-get_or graph.order k d stands.below;
+  is = found_at graph k d spec stands;
+  middle = middle;
+  built = built;
+  refused =
+      subst (λ (xs : List ℕ). IsRefused graph.specs (slice_index_or xs k d) spec middle fault) same_order refused;
+  others = others;
+}

@@ -10,6 +10,7 @@ use Rattle.image_plan.specs.Faults.{is_counted, IsShown as IsPlanShown}
 use Rattle.image_plan.specs.Plans.{is_planned, plan_said}
 use Rattle.image_plan.specs.declared.faults.PlanFault.{PlanFault}
 use Rattle.image_specs.specs.declared.specs.ImageSpec.{ImageSpec}
+use Rattle.image_specs.specs.declared.specs.Source.{Source}
 use Rattle.job_stages.specs.Stages.{Refuses}
 use Rattle.outside.specs.Counts.{Counts, Rose}
 use Rattle.outside.specs.Files.{OthersStay, Tree}
@@ -57,23 +58,40 @@ IsComposeCounted compose.NoMemory = Unit {0}
 
 -- an image with parts has no layout by the files before, or its file is not made
 abbrev pub IsLayoutRefused : ℕ → ImageSpec → Tree → BuildFault → Type 0
-IsLayoutRefused number spec before (Plan image fault) = (image ≡ number) × Refuses is_counted (plan_said before spec) fault
+IsLayoutRefused number spec before (Plan image fault) =
+    (image ≡ number) × Refuses is_counted (plan_said before spec) fault
 IsLayoutRefused number spec before (Compose image fault) =
     (image ≡ number) × IsOk (plan_said before spec) × IsComposeCounted fault
 IsLayoutRefused number spec before (Measure image fault) = ⊥
 IsLayoutRefused number spec before NoMemory = ⊥
 
--- the image that is put into a sparse one, and is built, has no layout
-abbrev pub IsChildRefused : List ImageSpec → ImageSpec → Tree → ℕ → PlanFault → Type 0
-IsChildRefused all spec before image fault =
-    ((first_source spec).child ≡ Some image)
+-- the image of that number, which is put into a sparse one, has no layout, or memory was refused
+abbrev pub IsLaidCoverRefused : ℕ → ImageSpec → Tree → BuildFault → Type 0
+IsLaidCoverRefused number child before (Plan image fault) =
+    (image ≡ number) × Refuses is_counted (plan_said before child) fault
+IsLaidCoverRefused number child before (Compose image fault) = ⊥
+IsLaidCoverRefused number child before (Measure image fault) = ⊥
+IsLaidCoverRefused number child before NoMemory = Unit {0}
+
+-- the image that is built for a source has no layout
+abbrev pub IsChildRefused : List ImageSpec → Source → Tree → ℕ → PlanFault → Type 0
+IsChildRefused all source before image fault =
+    (source.child ≡ Some image)
     × IsSomeAnd (slice_get all image)
     (λ child. IsTrue (is_planned child.kind) × Refuses is_counted (plan_said before child) fault)
+
+-- so it has none, or memory was refused
+abbrev pub IsCoverRefused : List ImageSpec → Source → Tree → BuildFault → Type 0
+IsCoverRefused all source before (Plan image fault) = IsChildRefused all source before image fault
+IsCoverRefused all source before (Compose image fault) = ⊥
+IsCoverRefused all source before (Measure image fault) = ⊥
+IsCoverRefused all source before NoMemory = Unit {0}
 
 -- a sparse image's source isn't there or too long, or its file is not made
 abbrev pub IsSparseRefused : List ImageSpec → ℕ → ImageSpec → Tree → BuildFault → Type 0
 IsSparseRefused all number spec before (Plan image fault) =
-    ((image ≡ number) × Refuses is_counted (sparse_said before spec) fault) ⊎ IsChildRefused all spec before image fault
+    ((image ≡ number) × Refuses is_counted (sparse_said before spec) fault)
+    ⊎ IsChildRefused all (first_source spec) before image fault
 IsSparseRefused all number spec before (Compose image fault) =
     (image ≡ number) × IsOk (sparse_said before spec) × IsComposeCounted fault
 IsSparseRefused all number spec before (Measure image fault) = ⊥

@@ -12,8 +12,11 @@ ghost use Rattle.build_job.specs.Faults.{IsEnded, IsOfImages, IsShown};
 ghost use Rattle.build_job.specs.Files.{StayOutside};
 ghost use Rattle.build_job.specs.Said.{sizes_of};
 
-use crate::{BuildFault, build_image};
+use crate::BuildFault;
+use crate::each::build_each;
+use crate::sizes::lengths;
 use base_fields::List;
+use build_laws::graphs_are_built;
 use image_graph::Graph;
 use outside::Files;
 use region_pool::Pool;
@@ -47,6 +50,8 @@ pub fn build_images<F: Files>(
     ensures others { StayOutside (full_names graph.now.specs) (F.file files.old) (F.file files.new) }
     ensures given_back { IsGivenBack pool.old pool.new }
 {
+    graphs_are_built();
     build_each(alloc, files, graph, pool)?;
-    lengths(alloc, files, graph)
+    let sizes = lengths(alloc, files, graph)?;
+    Ok(sizes)
 }

@@ -3,8 +3,15 @@
 #![tactic(auto)]
 
 mod all;
+mod covers;
+mod each;
 mod faults;
+mod kinds;
+mod laying;
+mod measures;
 mod one;
+mod sizes;
+mod sparse;
 
 pub use all::build_images;
 pub use faults::BuildFault;
