@@ -15,20 +15,20 @@ use Rattle.image_graph.specs.Children.{children_of}
 use Rattle.image_graph.specs.IsGraph.{IsGraph}
 use Rattle.image_specs.specs.declared.specs.ImageSpec.{ImageSpec}
 use Rattle.job_stages.proofs.PrintingLemmas.{lines_join}
-use Rattle.job_stages.specs.Printing.{PrintsFront, all_added}
+use Rattle.job_stages.specs.Printing.{Prints, PrintsFront, all_added}
 use Rattle.image_jobs.specs.Answering.{full_at}
 use Rattle.image_jobs.specs.BuildArm.{done_lines, image_line}
 use Rattle.image_jobs.specs.Printed.{image_lines, report_lines}
 
 -- ---- lines at their places
 
-pub lines_length : (graph : Graph) (images sizes : List ℕ) → length sizes ≡ length images
+lines_length : (graph : Graph) (images sizes : List ℕ) → length sizes ≡ length images
     → length (image_lines graph images sizes) ≡ length images
 lines_length graph [] sizes same = refl
 lines_length graph (image ∷ images) [] same = absurd (omega arith)
 lines_length graph (image ∷ images) (size ∷ sizes) same = ap suc (lines_length graph images sizes (omega arith))
 
-pub line_at : (graph : Graph) (images sizes : List ℕ) (k : ℕ) → k < length images → length sizes ≡ length images
+line_at : (graph : Graph) (images sizes : List ℕ) (k : ℕ) → k < length images → length sizes ≡ length images
     → get_or (image_lines graph images sizes) k [] ≡ image_text (full_at graph (get_or images k 0)) (get_or sizes k 0)
 line_at graph [] sizes k below same = absurd (omega arith)
 line_at graph (image ∷ images) [] k below same = absurd (omega arith)
@@ -36,7 +36,7 @@ line_at graph (image ∷ images) (size ∷ sizes) zero below same = refl
 line_at graph (image ∷ images) (size ∷ sizes) (suc k) below same = line_at graph images sizes k (omega arith) (omega arith)
 
 -- one line more
-pub line_more : (lines : List (List ℕ)) (k : ℕ) (before between now : Option (List (List ℕ))) → k < length lines
+line_more : (lines : List (List ℕ)) (k : ℕ) (before between now : Option (List (List ℕ))) → k < length lines
     → between ≡ all_added before (take k lines) → now ≡ added between (get_or lines k [])
     → now ≡ all_added before (take (k + 1) lines)
 line_more lines k before between now below front line =
@@ -45,7 +45,7 @@ line_more lines k before between now below front line =
     ∙ ap (all_added before) (sym (take_more lines k [] below))
 
 -- a front is one of more lines, too
-pub front_more : (a b : List (List ℕ)) (before now : Option (List (List ℕ))) → PrintsFront a before now → PrintsFront (a ++ b) before now
+front_more : (a b : List (List ℕ)) (before now : Option (List (List ℕ))) → PrintsFront a before now → PrintsFront (a ++ b) before now
 front_more a b before now front =
     let n : ℕ = min front.printed (length a) in
     let below : n ≤ length a = omega arith in
@@ -55,11 +55,62 @@ front_more a b before now front =
     }
 
 -- all of them are a front of more
-pub whole_more : (a b : List (List ℕ)) (before now : Option (List (List ℕ))) → now ≡ all_added before a → PrintsFront (a ++ b) before now
+whole_more : (a b : List (List ℕ)) (before now : Option (List (List ℕ))) → now ≡ all_added before a → PrintsFront (a ++ b) before now
 whole_more a b before now same = record {
   printed = length a;
   same = same ∙ ap (all_added before) (sym (take-append_seam a b));
 }
+
+-- ---- what is printed
+
+-- the line of one image more
+pub image_more : (graph : Graph) (images sizes : List ℕ) (k : ℕ) (name : List ℕ) (before between now : Option (List (List ℕ)))
+    → k < length images → length sizes ≡ length images → name ≡ full_at graph (get_or images k 0)
+    → between ≡ all_added before (take k (image_lines graph images sizes))
+    → now ≡ added between (image_text name (get_or sizes k 0))
+    → now ≡ all_added before (take (k + 1) (image_lines graph images sizes))
+image_more graph images sizes k name before between now below same named front line =
+    let many : length (image_lines graph images sizes) ≡ length images = lines_length graph images sizes same in
+    let text : image_text name (get_or sizes k 0) ≡ get_or (image_lines graph images sizes) k [] =
+        ap (λ (n : List ℕ). image_text n (get_or sizes k 0)) named ∙ sym (line_at graph images sizes k below same) in
+    line_more (image_lines graph images sizes) k before between now (omega arith) front (line ∙ ap (added between) text)
+
+pub all_printed : (graph : Graph) (images sizes : List ℕ) (k : ℕ) (before now : Option (List (List ℕ)))
+    → length images ≤ k → length sizes ≡ length images
+    → now ≡ all_added before (take k (image_lines graph images sizes)) → now ≡ all_added before (image_lines graph images sizes)
+all_printed graph images sizes k before now past same front =
+    let many : length (image_lines graph images sizes) ≡ length images = lines_length graph images sizes same in
+    let all : length (image_lines graph images sizes) ≤ k = omega arith in
+    front ∙ ap (all_added before) (take_all k (image_lines graph images sizes) all)
+
+-- a front of the images' lines, and all of them, are a front of those of the build
+pub images_front : (graph : Graph) (images sizes : List ℕ) (before now : Option (List (List ℕ))) → images ≡ graph.order
+    → PrintsFront (image_lines graph images sizes) before now → PrintsFront (report_lines graph sizes) before now
+images_front graph images sizes before now same front =
+    front_more (image_lines graph graph.order sizes) (built_text (length sizes) ∷ []) before now
+    (subst (λ (numbers : List ℕ). PrintsFront (image_lines graph numbers sizes) before now) same front)
+
+pub images_printed : (graph : Graph) (images sizes : List ℕ) (before between now : Option (List (List ℕ))) → images ≡ graph.order
+    → between ≡ all_added before (image_lines graph images sizes) → now ≡ between → PrintsFront (report_lines graph sizes) before now
+images_printed graph images sizes before between now same all stays =
+    whole_more (image_lines graph graph.order sizes) (built_text (length sizes) ∷ []) before now
+    (stays ∙ all ∙ ap (λ (numbers : List ℕ). all_added before (image_lines graph numbers sizes)) same)
+
+-- so they are with the line of their number
+pub report_printed : (graph : Graph) (images sizes : List ℕ) (many : ℕ) (before between now : Option (List (List ℕ))) (faults_before faults_now : ℕ)
+    → images ≡ graph.order → many ≡ length sizes → between ≡ all_added before (image_lines graph images sizes)
+    → now ≡ added between (built_text many) → Prints (report_lines graph sizes) before now faults_before faults_now
+report_printed graph images sizes many before between now faults_before faults_now same number all last =
+    let lines : now ≡ all_added before (report_lines graph sizes) =
+        last ∙ ap (λ (n : ℕ). added between (built_text n)) number
+        ∙ ap (λ (upto : Option (List (List ℕ))). added upto (built_text (length sizes))) all
+        ∙ ap (λ (numbers : List ℕ). added (all_added before (image_lines graph numbers sizes)) (built_text (length sizes))) same
+        ∙ sym (lines_join before (image_lines graph graph.order sizes) (built_text (length sizes) ∷ [])) in
+    let front : PrintsFront (report_lines graph sizes) before now = record {
+      printed = length (report_lines graph sizes);
+      same = lines ∙ ap (all_added before) (sym (take_all (length (report_lines graph sizes)) (report_lines graph sizes) (omega arith)));
+    } in
+    record { front = front; whole = λ steady. lines }
 
 -- ---- those of a graph
 

@@ -1,33 +1,35 @@
--- What an answer says of the plan, of the counts, of the files and of the lines, by its kind.
-use Rattle.std.proofs.Common.{◌≡◌, ◌∙◌, ℕ, Bool, true, false, ◌<◌, ◌≤◌, ◌⊎◌, List, [], ◌∷◌, Option, Some, None, Result, Ok, Err, refl, ap, subst, sym, arith, inl, inr}
-use Rattle.std.specs.Prelude.{◌≢◌, IsOk, IsOkAnd, MatchBool, length}
+-- What an answer says of the counts, of the files and of the lines.
+use Rattle.std.proofs.Common.{◌≡◌, ◌∙◌, ◌⊎◌, ℕ, List, [], ◌∷◌, Result, Ok, Err, refl, ap, subst, sym, inl, inr}
+use Rattle.std.specs.Prelude.{◌≢◌}
 use Rattle.base_fields.specs.Results.{◌>>=◌, refused_by}
-use Rattle.outside.specs.Counts.{Counts, NoneFell, Rose}
+use Rattle.outside.specs.Counts.{Counts}
 use Rattle.outside.specs.Files.{Tree}
+use Rattle.outside.specs.declared.files.ComposeFault.TheVariants as compose
+use Rattle.outside.specs.declared.files.FileErr.TheVariants as length
 use Rattle.answer_lines.specs.Answer.{error_text}
 use Rattle.answer_lines.specs.Kind.{Kind, Finished, LineFailed, Counted, Refused, kind_of}
 use Rattle.answer_lines.specs.declared.answer.Answer.{Answer}
-use Rattle.answer_lines.specs.declared.answer.Answer.TheVariants as answer
 use Rattle.answer_lines.specs.declared.answer.Report.{Report}
-use Rattle.answer_lines.specs.declared.answer.Report.TheVariants as report
-use Rattle.build_job.specs.Faults.{IsEnded}
-use Rattle.build_job.specs.Files.{StayOutside}
+use Rattle.build_job.specs.Faults.{IsShown as IsBuildShown}
+use Rattle.build_job.specs.Said.{sizes_of}
 use Rattle.build_job.specs.declared.faults.BuildFault.{BuildFault}
-use Rattle.build_laws.specs.Order.{ordered}
+use Rattle.build_job.specs.declared.faults.BuildFault.TheVariants as build
 use Rattle.conf_keys.specs.declared.conf.Conf.{Conf}
 use Rattle.conf_sections.specs.declared.fault.ConfFault.{ConfFault}
 use Rattle.conf_sections.specs.declared.fault.ConfFault.TheVariants as conf
 use Rattle.conf_sections.specs.Reading.{Refuses as ConfRefuses}
 use Rattle.image_graph.specs.declared.images.Graph.{Graph}
+use Rattle.image_graph.specs.IsGraph.{IsGraph}
 use Rattle.image_names.specs.declared.fault.GraphFault.{GraphFault}
 use Rattle.image_names.specs.declared.fault.GraphFault.TheVariants as graph
-use Rattle.image_specs.specs.Specs.{full_names}
+use Rattle.image_plan.specs.declared.faults.PlanFault.TheVariants as plan
 use Rattle.job_stages.specs.Stages.{Refuses}
-use Rattle.image_jobs.specs.Answering.{IsCopied, build_answer, conf_answer, graph_answer, is_counted, is_fault}
-use Rattle.image_jobs.specs.BuildArm.{AllBuilt, BuildAnswers, BuildCause, BuildChanges, Cause, Failing, Absence, Ending, Free, Never}
-use Rattle.image_jobs.specs.BuildArm.{HasBuilt, IsComplete, IsNotBuilt, IsRefused, IsShown, IsUnbuilt, answers_by, build_lines, built_by}
-use Rattle.image_jobs.specs.BuildArm.{cause_by, cause_of, done_lines, lines_by, shown_by}
-use Rattle.image_jobs.specs.Printed.{HasError, IsRefusal, Reports, reported_by}
+use Rattle.placement_rules.specs.declared.faults.PlaceFault.{PlaceFault}
+use Rattle.placement_rules.specs.declared.faults.PlaceFault.TheVariants as place
+use Rattle.image_jobs.proofs.LineLemmas.{report_is_done}
+use Rattle.image_jobs.specs.Answering.{IsCopied, build_answer, conf_answer, graph_answer, is_counted, place_answer}
+use Rattle.image_jobs.specs.BuildArm.{BuildChanges, IsShown, build_lines, done_lines, lines_by}
+use Rattle.image_jobs.specs.Printed.{HasError, IsRefusal, Reports, report_lines, reported_by}
 
 -- ---- the reading
 
@@ -56,115 +58,44 @@ graph_refuses wanted (graph.NameClash name) h = rw (h (λ is. cc)) refl
 graph_refuses wanted (graph.Cycle name) h = rw (h (λ is. cc)) refl
 graph_refuses wanted graph.NoMemory h = tt
 
--- ---- names that are copied
+-- ---- the causes of a fault of the building
 
-pub copied_shown : (before now : Counts) (wanted got : Answer) → IsCopied wanted got → IsShown before now wanted → IsShown before now got
+place_shown : (before now : Counts) (fault : PlaceFault) → IsShown before now (place_answer fault)
+place_shown before now (place.TooManyEntries count) = tt
+place_shown before now (place.Misaligned part value align) = tt
+place_shown before now (place.BadHoles part index) = tt
+place_shown before now (place.BadAutoresize part room least) = tt
+place_shown before now (place.FileTooLarge part has limit) = tt
+place_shown before now (place.NoSize part) = tt
+place_shown before now (place.TooFar part number limit) = tt
+place_shown before now (place.Overlap a b) = tt
+place_shown before now (place.ImageTooSmall has needs) = tt
+place_shown before now (place.NotOnBlock part value pebsize) = tt
+place_shown before now (place.PastFlash part end limit) = tt
+place_shown before now place.NoMemory = tt
+
+build_shown : (graph : Graph) (before now : Counts) (fault : BuildFault) → IsBuildShown before now fault
+    → IsShown before now (build_answer graph fault)
+build_shown graph before now (build.Plan image (plan.Missing source)) h = h
+build_shown graph before now (build.Plan image plan.FileFault) h = h
+build_shown graph before now (build.Plan image (plan.Place fault)) h = place_shown before now fault
+build_shown graph before now (build.Compose image (compose.Missing part)) h = h
+build_shown graph before now (build.Compose image compose.FileFault) h = h
+build_shown graph before now (build.Compose image (compose.SourceShort part at)) h = h
+build_shown graph before now (build.Compose image compose.NoMemory) h = tt
+build_shown graph before now (build.Measure image length.Missing) h = h
+build_shown graph before now (build.Measure image length.Failed) h = h
+build_shown graph before now build.NoMemory h = tt
+
+copied_shown : (before now : Counts) (wanted got : Answer) → IsCopied wanted got → IsShown before now wanted → IsShown before now got
 copied_shown before now wanted got (inl same) h = subst (IsShown before now) (sym same) h
 copied_shown before now wanted got (inr memory) h = subst (IsShown before now) (sym memory) tt
 
--- an image is refused as its fault says
-not_built_same : (graph : Graph) (before after : Tree) (fault : BuildFault) (got : Answer) (counted : Bool)
-    → IsEnded graph before after fault → got ≡ build_answer graph fault
-    → MatchBool counted (Unit {0}) (IsNotBuilt graph before after got)
-not_built_same graph before after fault got true ended same = tt
-not_built_same graph before after fault got false ended same = record { fault = fault; ended = ended; is = same }
-
-pub not_built : (graph : Graph) (before after : Tree) (fault : BuildFault) (got : Answer)
-    → IsEnded graph before after fault → IsCopied (build_answer graph fault) got → IsUnbuilt graph before after got
-not_built graph before after fault got ended (inl same) =
-    not_built_same graph before after fault got (is_counted got) ended same
-not_built graph before after fault got ended (inr memory) = subst (IsUnbuilt graph before after) (sym memory) tt
-
--- ---- the answer
-
-plan_refused_by : (plan : Result Graph Answer) (before after : Tree) (a : Answer) (k : Kind) → HasError k
-    → MatchBool (is_fault k) (Unit {0}) (plan ≡ Err a) → answers_by plan before after a k
-plan_refused_by plan before after a (Finished said) error h = absurd error
-plan_refused_by plan before after a LineFailed error h = absurd error
-plan_refused_by plan before after a Counted error h = tt
-plan_refused_by plan before after a Refused error h = rw h refl
-
-pub plan_refused : (plan : Result Graph Answer) (before after : Tree) (a : Answer) → IsRefusal a → Refuses is_counted plan a
-    → BuildAnswers plan before after a
-plan_refused plan before after a error h = plan_refused_by plan before after a (kind_of a) error h
-
-image_refused_by : (graph : Graph) (before after : Tree) (a : Answer) (k : Kind) → HasError k
-    → MatchBool (is_fault k) (Unit {0}) (IsNotBuilt graph before after a) → answers_by (Ok graph) before after a k
-image_refused_by graph before after a (Finished said) error h = absurd error
-image_refused_by graph before after a LineFailed error h = absurd error
-image_refused_by graph before after a Counted error h = tt
-image_refused_by graph before after a Refused error h = h
-
-pub image_refused : (plan : Result Graph Answer) (graph : Graph) (before middle after : Tree) (a : Answer) → plan ≡ Ok graph
-    → middle ≡ before → IsRefusal a → IsUnbuilt graph middle after a → BuildAnswers plan before after a
-image_refused plan graph before middle after a is same error h =
-    rw is (image_refused_by graph before after a (kind_of a) error (subst (λ (file : Tree). IsUnbuilt graph file after a) same h))
-
-done_by : (graph : Graph) (before after : Tree) (wanted : Report) (lines_before lines_now : ℕ) (a : Answer) (k : Kind)
-    → wanted ≡ report.Built (length (ordered graph)) → reported_by wanted lines_before lines_now k
-    → answers_by (Ok graph) before after a k
-done_by graph before after wanted lines_before lines_now a (Finished said) is h = h.0 ∙ is
-done_by graph before after wanted lines_before lines_now a LineFailed is h = tt
-done_by graph before after wanted lines_before lines_now a Counted is h = absurd h
-done_by graph before after wanted lines_before lines_now a Refused is h = absurd h
-
-pub all_done : (plan : Result Graph Answer) (graph : Graph) (before after : Tree) (wanted : Report) (lines_before lines_now : ℕ) (a : Answer)
-    → plan ≡ Ok graph → wanted ≡ report.Built (length (ordered graph)) → Reports wanted lines_before lines_now a
-    → BuildAnswers plan before after a
-all_done plan graph before after wanted lines_before lines_now a is many h =
-    rw is (done_by graph before after wanted lines_before lines_now a (kind_of a) many h)
-
--- ---- its cause
-
-since_by : (before middle now : Counts) (cause : Cause) → NoneFell before middle → shown_by middle now cause → shown_by before now cause
-since_by before middle now Failing fell h = let less : before.faults ≤ middle.faults = fell.faults in omega arith
-since_by before middle now Absence fell h = let less : before.absences ≤ middle.absences = fell.absences in omega arith
-since_by before middle now Ending fell h = let less : before.ends ≤ middle.ends = fell.ends in omega arith
-since_by before middle now Free fell h = tt
-since_by before middle now Never fell h = h
-
-pub shown_since : (before middle now : Counts) (a : Answer) → NoneFell before middle → IsShown middle now a → IsShown before now a
-shown_since before middle now a fell h = since_by before middle now (cause_of a) fell h
-
-refused_cause_by : (before now : Counts) (lines_before lines_now : ℕ) (a : Answer) (k : Kind) → HasError k → IsShown before now a
-    → cause_by before now lines_before lines_now a k
-refused_cause_by before now lines_before lines_now a (Finished said) error h = absurd error
-refused_cause_by before now lines_before lines_now a LineFailed error h = absurd error
-refused_cause_by before now lines_before lines_now a Counted error h = h
-refused_cause_by before now lines_before lines_now a Refused error h = h
-
-pub refused_cause : (before now : Counts) (lines_before lines_now : ℕ) (a : Answer) → IsRefusal a → IsShown before now a
-    → BuildCause before now lines_before lines_now a
-refused_cause before now lines_before lines_now a error h = refused_cause_by before now lines_before lines_now a (kind_of a) error h
-
-done_cause_by : (before now : Counts) (lines_before lines_now : ℕ) (a : Answer) (wanted : Report) (k : Kind)
-    → reported_by wanted lines_before lines_now k → cause_by before now lines_before lines_now a k
-done_cause_by before now lines_before lines_now a wanted (Finished said) h = h.1
-done_cause_by before now lines_before lines_now a wanted LineFailed h = h
-done_cause_by before now lines_before lines_now a wanted Counted h = absurd h
-done_cause_by before now lines_before lines_now a wanted Refused h = absurd h
-
-pub done_cause : (before now : Counts) (lines_before lines_now : ℕ) (a : Answer) (wanted : Report) → Reports wanted lines_before lines_now a
-    → BuildCause before now lines_before lines_now a
-done_cause before now lines_before lines_now a wanted h = done_cause_by before now lines_before lines_now a wanted (kind_of a) h
-
--- ---- what is accepted
-
-plan_ok : (plan : Result Graph Answer) (said : Report) → IsOkAnd plan (λ graph. said ≡ report.Built (length (ordered graph))) → IsOk plan
-plan_ok (Ok graph) said h = tt
-plan_ok (Err refusal) said h = h
-
--- an answer that has its cause is a want of memory, or done, or refused, where nothing failed
-pub answer_completes : (plan : Result Graph Answer) (before after : Tree) (counts_before counts_now : Counts) (lines_before lines_now : ℕ) (a : Answer)
-    → BuildAnswers plan before after a → BuildCause counts_before counts_now lines_before lines_now a
-    → IsComplete plan before after counts_before counts_now lines_before lines_now a
-answer_completes plan before after counts_before counts_now lines_before lines_now (answer.Done said) h cause = λ steady printed. plan_ok plan said h
-answer_completes plan before after counts_before counts_now lines_before lines_now answer.PrintFault h cause = λ steady printed. printed cause
-answer_completes plan before after counts_before counts_now lines_before lines_now answer.FileFault h cause = λ steady printed. absurd (steady cause)
-answer_completes plan before after counts_before counts_now lines_before lines_now (answer.DeviceFault dev) h cause = λ steady printed. absurd cause
-answer_completes plan before after counts_before counts_now lines_before lines_now answer.NandFault h cause = λ steady printed. absurd cause
-answer_completes plan before after counts_before counts_now lines_before lines_now answer.NoMemory h cause = λ steady printed. refl
-answer_completes plan before after counts_before counts_now lines_before lines_now a h cause = λ steady printed. h
+-- the answer of a fault has the cause of that
+pub answer_shown : (graph : Graph) (before now : Counts) (fault : BuildFault) (got : Answer) → IsCopied (build_answer graph fault) got
+    → IsBuildShown before now fault → IsShown before now got
+answer_shown graph before now fault got copied h =
+    copied_shown before now (build_answer graph fault) got copied (build_shown graph before now fault h)
 
 -- ---- the files
 
@@ -172,34 +103,6 @@ answer_completes plan before after counts_before counts_now lines_before lines_n
 pub nothing_changes : (plan : Result Graph Answer) (before after : Tree) → after ≡ before → BuildChanges plan before after
 nothing_changes (Ok graph) before after h = λ name out. ap (λ (file : Tree). file name) h
 nothing_changes (Err refusal) before after h = h
-
--- only the images' names change, also where the reading came before
-pub images_change : (plan : Result Graph Answer) (graph : Graph) (before middle after : Tree) → plan ≡ Ok graph → middle ≡ before
-    → StayOutside (full_names graph.specs) middle after → BuildChanges plan before after
-images_change plan graph before middle after is same h =
-    rw is (subst (λ (file : Tree). StayOutside (full_names graph.specs) file after) same h)
-
-refused_has_by : (plan : Result Graph Answer) (before after : Tree) (k : Kind) → HasError k → built_by plan before after k
-refused_has_by plan before after (Finished said) error = absurd error
-refused_has_by plan before after LineFailed error = absurd error
-refused_has_by plan before after Counted error = tt
-refused_has_by plan before after Refused error = tt
-
-pub refused_has : (plan : Result Graph Answer) (before after : Tree) (a : Answer) → IsRefusal a → HasBuilt plan before after a
-refused_has plan before after a error = refused_has_by plan before after (kind_of a) error
-
-done_has_by : (graph : Graph) (before after : Tree) (wanted : Report) (lines_before lines_now : ℕ) (k : Kind)
-    → reported_by wanted lines_before lines_now k → AllBuilt before after graph → built_by (Ok graph) before after k
-done_has_by graph before after wanted lines_before lines_now (Finished said) h built = built
-done_has_by graph before after wanted lines_before lines_now LineFailed h built = built
-done_has_by graph before after wanted lines_before lines_now Counted h built = absurd h
-done_has_by graph before after wanted lines_before lines_now Refused h built = absurd h
-
-pub done_has : (plan : Result Graph Answer) (graph : Graph) (before middle after : Tree) (wanted : Report) (lines_before lines_now : ℕ) (a : Answer)
-    → plan ≡ Ok graph → middle ≡ before → Reports wanted lines_before lines_now a → AllBuilt middle after graph
-    → HasBuilt plan before after a
-done_has plan graph before middle after wanted lines_before lines_now a is same h built =
-    rw is (done_has_by graph before after wanted lines_before lines_now (kind_of a) h (subst (λ (file : Tree). AllBuilt file after graph) same built))
 
 -- ---- the lines
 
@@ -221,6 +124,9 @@ reported_lines plan after wanted before now a LineFailed h = refl
 reported_lines plan after wanted before now a Counted h = absurd h
 reported_lines plan after wanted before now a Refused h = absurd h
 
-pub work_lines : (plan : Result Graph Answer) (after : Tree) (wanted : Report) (before now : ℕ) (a : Answer)
-    → Reports wanted before now a → build_lines plan after a ≡ done_lines plan after
-work_lines plan after wanted before now a h = reported_lines plan after wanted before now a (kind_of a) h
+pub work_lines : (plan : Result Graph Answer) (graph : Graph) (after : Tree) (wanted : Report) (before now : ℕ) (a : Answer) (sizes : List ℕ)
+    → plan ≡ Ok graph → IsGraph graph → sizes ≡ sizes_of graph after → Reports wanted before now a
+    → build_lines plan after a ≡ report_lines graph sizes
+work_lines plan graph after wanted before now a sizes is sound same h =
+    reported_lines plan after wanted before now a (kind_of a) h
+    ∙ ap (λ (plan : Result Graph Answer). done_lines plan after) is ∙ sym (report_is_done graph after sizes sound same)
