@@ -72,7 +72,7 @@ pub image_more : (graph : Graph) (images sizes : List ℕ) (k : ℕ) (name : Lis
 image_more graph images sizes k name before between now below same named front line =
     let many : length (image_lines graph images sizes) ≡ length images = lines_length graph images sizes same in
     let text : image_text name (get_or sizes k 0) ≡ get_or (image_lines graph images sizes) k [] =
-        ap (λ (n : List ℕ). image_text n (get_or sizes k 0)) named ∙ sym (line_at graph images sizes k below same) in
+    ap (λ (n : List ℕ). image_text n (get_or sizes k 0)) named ∙ sym (line_at graph images sizes k below same) in
     line_more (image_lines graph images sizes) k before between now (omega arith) front (line ∙ ap (added between) text)
 
 pub all_printed : (graph : Graph) (images sizes : List ℕ) (k : ℕ) (before now : Option (List (List ℕ)))
@@ -102,10 +102,10 @@ pub report_printed : (graph : Graph) (images sizes : List ℕ) (many : ℕ) (bef
     → now ≡ added between (built_text many) → Prints (report_lines graph sizes) before now faults_before faults_now
 report_printed graph images sizes many before between now faults_before faults_now same number all last =
     let lines : now ≡ all_added before (report_lines graph sizes) =
-        last ∙ ap (λ (n : ℕ). added between (built_text n)) number
-        ∙ ap (λ (upto : Option (List (List ℕ))). added upto (built_text (length sizes))) all
-        ∙ ap (λ (numbers : List ℕ). added (all_added before (image_lines graph numbers sizes)) (built_text (length sizes))) same
-        ∙ sym (lines_join before (image_lines graph graph.order sizes) (built_text (length sizes) ∷ [])) in
+    last ∙ ap (λ (n : ℕ). added between (built_text n)) number
+    ∙ ap (λ (upto : Option (List (List ℕ))). added upto (built_text (length sizes))) all
+    ∙ ap (λ (numbers : List ℕ). added (all_added before (image_lines graph numbers sizes)) (built_text (length sizes))) same
+    ∙ sym (lines_join before (image_lines graph graph.order sizes) (built_text (length sizes) ∷ [])) in
     let front : PrintsFront (report_lines graph sizes) before now = record {
       printed = length (report_lines graph sizes);
       same = lines ∙ ap (all_added before) (sym (take_all (length (report_lines graph sizes)) (report_lines graph sizes) (omega arith)));
