@@ -134,8 +134,10 @@ lines_of_found : (graph : Graph) (after : Tree) (images : List ℕ) → All (λ 
     ≡ map (image_line after) (filter_map (slice_get graph.specs) images)
 lines_of_found graph after [] all = refl
 lines_of_found graph after (image ∷ images) all =
-    line_of_found graph after image images (filter_map (slice_get graph.specs) images) (slice_get graph.specs image) refl (not_past graph.specs image all.0)
-    (lines_of_found graph after images all.1)
+    let here : image < length graph.specs = all zero image (omega arith) in
+    let rest : All (λ image. image < length graph.specs) images = λ k d below. all (suc k) d (omega arith) in
+    line_of_found graph after image images (filter_map (slice_get graph.specs) images) (slice_get graph.specs image) refl
+    (not_past graph.specs image here) (lines_of_found graph after images rest)
 
 -- the lines that are printed are those of the plan
 pub report_is_done : (graph : Graph) (after : Tree) (sizes : List ℕ) → IsGraph graph → sizes ≡ sizes_of graph after

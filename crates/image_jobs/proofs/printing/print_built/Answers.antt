@@ -1,4 +1,4 @@
-use Rattle.std.proofs.Common.{rules}
+use Rattle.std.proofs.Common.{length, refl, rules}
 use Rattle.image_jobs.proofs.LineLemmas.{images_front, images_printed, report_printed}
 use Rattle.image_jobs.proofs.printing.print_built.Goals as goal
 
@@ -20,5 +20,5 @@ returns-in_err-print_count-clause-prints g c = record {
 
 pub returns-clause-prints : goal.returns-clause-prints
 returns-clause-prints g c =
-    report_printed c.args.graph.now c.as_slice.result.now c.args.sizes.now c.len.result _ _ _ _ _ c.as_slice.ensures
-    c.len.ensures c.in_ok-print_images.ensures.printed c.in_ok-print_count.ensures.printed
+    report_printed c.args.graph.now c.as_slice.result.now c.args.sizes.now (length c.args.sizes.now) _ _ _ _ _ c.as_slice.ensures
+    refl c.in_ok-print_images.ensures.printed c.in_ok-print_count.ensures.printed

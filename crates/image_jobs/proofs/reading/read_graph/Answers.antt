@@ -8,4 +8,5 @@ returns-in-Err-clause-gives g c = λ told.
 
 pub returns-clause-gives : goal.returns-clause-gives
 returns-clause-gives g c = λ told.
-    rw (← c.text.ensures, c.in-Ok.ensures.answers told, ← c.with_paths.ensures) (graph_refuses _ c.in-Err-graph.fault c.in-Err-graph.ensures.answers)
+    rw (← c.text.ensures, c.in-Ok.ensures.answers told)
+    (graph_refuses _ c.in-Err-graph.fault (rw c.with_paths-conf.ensures at c.in-Err-graph.ensures.answers))
