@@ -1,2 +1,3 @@
 -- lemmas
+mod LineLemmas
 mod RunLemmas

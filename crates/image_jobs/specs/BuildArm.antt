@@ -1,52 +1,106 @@
--- What the answer of a build says of the plan, of the counts, of the files and of the lines. Each word goes by the
--- answer's kind.
-use Rattle.std.specs.Prelude.{◌≡◌, ℕ, List, [], ◌∷◌, Option, Some, None, Result, Ok, Err, IsOkAnd, MatchResult, IsOk}
+-- What the answer of a build says of what is asked for, of the counts, of the files and of the lines. The plan is the graph
+-- of the configuration, or the refusal of that. Each word goes by the answer's kind.
+use Rattle.std.specs.Prelude.{◌≡◌, ℕ, List, [], ◌∷◌, ◌++◌, Result, Ok, Err, IsOk, IsOkAnd, MatchBool, MatchResult, length, map}
 use Rattle.outside.specs.Counts.{Counts, Rose}
-use Rattle.outside.specs.Files.{Tree, OthersStay}
+use Rattle.outside.specs.Files.{Tree, bytes_of}
 use Rattle.answer_lines.specs.Answer.{error_text}
 use Rattle.answer_lines.specs.Kind.{Kind, Finished, LineFailed, Counted, Refused, kind_of}
 use Rattle.answer_lines.specs.Lines.{built_text, image_text}
 use Rattle.answer_lines.specs.declared.answer.Answer.{Answer}
-use Rattle.answer_lines.specs.declared.answer.Answer.TheVariants.{BadText, UnknownKey, BadValue, Unset, DeepInclude}
-use Rattle.answer_lines.specs.declared.answer.Answer.TheVariants.{TooLong, TooFar, Missing, SourceShort, FileFault, NoMemory}
-use Rattle.answer_lines.specs.declared.answer.Answer.TheVariants.{NotBuilt}
+use Rattle.answer_lines.specs.declared.answer.Answer.TheVariants.{BadText, UnknownKey, BadValue, Unset, DeepInclude, TooLong}
+use Rattle.answer_lines.specs.declared.answer.Answer.TheVariants.{TooMany, NoKind, NoFlash, NameClash, Cycle, TooManyEntries}
+use Rattle.answer_lines.specs.declared.answer.Answer.TheVariants.{Misaligned, BadHoles, BadAutoresize, FileTooLarge, NoSize}
+use Rattle.answer_lines.specs.declared.answer.Answer.TheVariants.{TooFar, Overlap, ImageTooSmall, NotOnBlock, PastFlash}
+use Rattle.answer_lines.specs.declared.answer.Answer.TheVariants.{Missing, SourceShort, FileFault, NoMemory}
 use Rattle.answer_lines.specs.declared.answer.Report.TheVariants as report
-use Rattle.image_jobs.specs.Layout.{Layout, Built}
+use Rattle.build_job.specs.Faults.{IsEnded}
+use Rattle.build_job.specs.Files.{StayOutside}
+use Rattle.build_job.specs.declared.faults.BuildFault.{BuildFault}
+use Rattle.build_laws.specs.Builds.{Built}
+use Rattle.build_laws.specs.Order.{ordered}
+use Rattle.image_graph.specs.declared.images.Graph.{Graph}
+use Rattle.image_specs.specs.Specs.{full_names}
+use Rattle.image_specs.specs.declared.specs.ImageSpec.{ImageSpec}
+use Rattle.image_jobs.specs.Answering.{build_answer, is_counted}
 
 -- ---- the answer
 
--- how many images are built
-abbrev pub count_of : Option Layout → ℕ
-count_of None = 0
-count_of (Some layout) = 1
+-- the images before one in the order were built, and by the files that they left that one is refused so
+pub record IsNotBuilt (graph : Graph) (before after : Tree) (answer : Answer) : Type 0 where
+  pub fault : BuildFault
+  pub ended : IsEnded graph before after fault
+  pub is : answer ≡ build_answer graph fault
 
-abbrev pub answers_by : Result (Option Layout) Answer → Answer → Kind → Type 0
-answers_by plan answer (Finished said) = IsOkAnd plan (λ made. said ≡ report.Built (count_of made))
-answers_by plan answer LineFailed = IsOk plan
-answers_by plan answer Counted = Unit {0}
-answers_by plan answer Refused = plan ≡ Err answer
+-- so it is, or a call failed or memory was refused
+abbrev pub IsUnbuilt : Graph → Tree → Tree → Answer → Type 0
+IsUnbuilt graph before after answer = MatchBool (is_counted answer) (Unit {0}) (IsNotBuilt graph before after answer)
 
--- the answer is the planned one, or a call failed or memory was refused; a line may fail where the work is done
-abbrev pub BuildAnswers : Result (Option Layout) Answer → Answer → Type 0
-BuildAnswers plan answer = answers_by plan answer (kind_of answer)
+-- the refusal of the plan, or that of an image
+abbrev pub IsRefused : Result Graph Answer → Tree → Tree → Answer → Type 0
+IsRefused (Ok graph) before after answer = IsNotBuilt graph before after answer
+IsRefused (Err refusal) before after answer = refusal ≡ answer
+
+abbrev pub answers_by : Result Graph Answer → Tree → Tree → Answer → Kind → Type 0
+answers_by plan before after answer (Finished said) = IsOkAnd plan (λ graph. said ≡ report.Built (length (ordered graph)))
+answers_by plan before after answer LineFailed = IsOk plan
+answers_by plan before after answer Counted = Unit {0}
+answers_by plan before after answer Refused = IsRefused plan before after answer
+
+-- all images are done, or the plan or an image is refused, or a call failed or memory was refused; a line may fail where
+-- the work is done
+abbrev pub BuildAnswers : Result Graph Answer → Tree → Tree → Answer → Type 0
+BuildAnswers plan before after answer = answers_by plan before after answer (kind_of answer)
 
 -- ---- its cause
 
--- what shows an answer that comes before the lines, by the counts of the files; no other comes
+-- what shows an answer that comes before the lines: a call that failed, a name that wasn't there, an end, or no count; no
+-- build gives another
+pub data Cause : Type 0 where
+  Failing : Cause
+  Absence : Cause
+  Ending : Cause
+  Free : Cause
+  Never : Cause
+
+abbrev pub cause_of : Answer → Cause
+cause_of FileFault = Failing
+cause_of (Missing name) = Absence
+cause_of (SourceShort name at) = Ending
+cause_of (BadText name place) = Free
+cause_of (UnknownKey name place) = Free
+cause_of (BadValue name place) = Free
+cause_of (Unset var) = Free
+cause_of (DeepInclude name) = Free
+cause_of (TooLong total) = Free
+cause_of (TooMany count limit) = Free
+cause_of (NoKind image count) = Free
+cause_of (NoFlash image) = Free
+cause_of (NameClash name) = Free
+cause_of (Cycle name) = Free
+cause_of (TooManyEntries count) = Free
+cause_of (Misaligned part value align) = Free
+cause_of (BadHoles part index) = Free
+cause_of (BadAutoresize part room least) = Free
+cause_of (FileTooLarge part has limit) = Free
+cause_of (NoSize part) = Free
+cause_of (TooFar part number limit) = Free
+cause_of (Overlap a b) = Free
+cause_of (ImageTooSmall has needs) = Free
+cause_of (NotOnBlock part value pebsize) = Free
+cause_of (PastFlash part end limit) = Free
+cause_of NoMemory = Free
+cause_of other = Never
+
+abbrev pub shown_by : Counts → Counts → Cause → Type 0
+shown_by before now Failing = Rose before.faults now.faults
+shown_by before now Absence = Rose before.absences now.absences
+shown_by before now Ending = Rose before.ends now.ends
+shown_by before now Free = Unit {0}
+shown_by before now Never = ⊥
+
+-- its cause, by the counts of the files
 abbrev pub IsShown : Counts → Counts → Answer → Type 0
-IsShown before now FileFault = Rose before.faults now.faults
-IsShown before now (Missing name) = Rose before.absences now.absences
-IsShown before now (SourceShort name at) = Rose before.ends now.ends
-IsShown before now (BadText name place) = Unit {0}
-IsShown before now (UnknownKey name place) = Unit {0}
-IsShown before now (BadValue name place) = Unit {0}
-IsShown before now (Unset var) = Unit {0}
-IsShown before now (DeepInclude name) = Unit {0}
-IsShown before now (TooLong total) = Unit {0}
-IsShown before now (TooFar part number limit) = Unit {0}
-IsShown before now (NotBuilt name) = Unit {0}
-IsShown before now NoMemory = Unit {0}
-IsShown before now other = ⊥
+IsShown before now answer = shown_by before now (cause_of answer)
 
 abbrev pub cause_by : Counts → Counts → ℕ → ℕ → Answer → Kind → Type 0
 cause_by before now lines_before lines_now answer (Finished said) = lines_now ≡ lines_before
@@ -58,49 +112,59 @@ cause_by before now lines_before lines_now answer Refused = IsShown before now a
 abbrev pub BuildCause : Counts → Counts → ℕ → ℕ → Answer → Type 0
 BuildCause before now lines_before lines_now answer = cause_by before now lines_before lines_now answer (kind_of answer)
 
+-- ---- what is accepted
+
+abbrev pub expected_by : Result Graph Answer → Tree → Tree → Answer → Kind → Type 0
+expected_by plan before after answer (Finished said) = IsOk plan
+expected_by plan before after answer LineFailed = ⊥
+expected_by plan before after answer Counted = answer ≡ NoMemory
+expected_by plan before after answer Refused = IsRefused plan before after answer
+
+-- where no call on the files and no line failed: all images are done, or the plan or an image is refused, or memory was
+abbrev pub IsComplete : Result Graph Answer → Tree → Tree → Counts → Counts → ℕ → ℕ → Answer → Type 0
+IsComplete plan before after counts_before counts_now lines_before lines_now answer =
+    ¬ (Rose counts_before.faults counts_now.faults)
+    → ¬ (Rose lines_before lines_now)
+    → expected_by plan before after answer (kind_of answer)
+
 -- ---- the files
 
--- the image is built, or where none is to be, nothing has changed
-abbrev pub Makes : Tree → Tree → Option Layout → Type 0
-Makes before after None = after ≡ before
-Makes before after (Some layout) = Built layout before after
+-- each image of the graph is built, and every other name is as before
+abbrev pub AllBuilt : Tree → Tree → Graph → Type 0
+AllBuilt before after graph = Built graph.specs before graph.specs after
 
-abbrev pub built_by : Result (Option Layout) Answer → Tree → Tree → Kind → Type 0
-built_by plan before after (Finished said) = IsOkAnd plan (Makes before after)
-built_by plan before after LineFailed = IsOkAnd plan (Makes before after)
+abbrev pub built_by : Result Graph Answer → Tree → Tree → Kind → Type 0
+built_by plan before after (Finished said) = IsOkAnd plan (AllBuilt before after)
+built_by plan before after LineFailed = IsOkAnd plan (AllBuilt before after)
 built_by plan before after Counted = Unit {0}
 built_by plan before after Refused = Unit {0}
 
--- where the work is done, the image is built
-abbrev pub HasBuilt : Result (Option Layout) Answer → Tree → Tree → Answer → Type 0
+-- so it is where the work is done
+abbrev pub HasBuilt : Result Graph Answer → Tree → Tree → Answer → Type 0
 HasBuilt plan before after answer = built_by plan before after (kind_of answer)
 
--- every name but the image's is as before
-abbrev pub ChangesOnly : Tree → Tree → Option Layout → Type 0
-ChangesOnly before after None = after ≡ before
-ChangesOnly before after (Some layout) = OthersStay layout.file before after
-
--- whatever is answered, every name but the image's is as before
-abbrev pub BuildChanges : Result (Option Layout) Answer → Tree → Tree → Type 0
-BuildChanges plan before after = MatchResult plan (ChangesOnly before after) (λ _. after ≡ before)
+-- whatever is answered, every name but those of the images is as before
+abbrev pub BuildChanges : Result Graph Answer → Tree → Tree → Type 0
+BuildChanges plan before after =
+    MatchResult plan (λ graph. StayOutside (full_names graph.specs) before after) (λ _. after ≡ before)
 
 -- ---- the lines
 
--- those of what is made
-abbrev pub made_lines : Option Layout → List (List ℕ)
-made_lines None = built_text 0 ∷ []
-made_lines (Some layout) = image_text layout.file layout.size ∷ built_text 1 ∷ []
+-- the line of an image by the files afterwards
+abbrev pub image_line : Tree → ImageSpec → List ℕ
+image_line after spec = image_text spec.full (length (bytes_of after spec.full))
 
-abbrev pub done_lines : Result (Option Layout) Answer → List (List ℕ)
-done_lines (Ok made) = made_lines made
-done_lines (Err refusal) = []
+-- one for each image in the order, and then that of their number
+abbrev pub done_lines : Result Graph Answer → Tree → List (List ℕ)
+done_lines (Ok graph) after = map (image_line after) (ordered graph) ++ built_text (length (ordered graph)) ∷ []
+done_lines (Err refusal) after = []
 
-abbrev pub lines_by : Result (Option Layout) Answer → Answer → Kind → List (List ℕ)
-lines_by plan answer (Finished said) = done_lines plan
-lines_by plan answer LineFailed = done_lines plan
-lines_by plan answer Counted = error_text answer ∷ []
-lines_by plan answer Refused = error_text answer ∷ []
+abbrev pub lines_by : Result Graph Answer → Tree → Answer → Kind → List (List ℕ)
+lines_by plan after answer (Finished said) = done_lines plan after
+lines_by plan after answer LineFailed = done_lines plan after
+lines_by plan after answer Counted = error_text answer ∷ []
+lines_by plan after answer Refused = error_text answer ∷ []
 
 -- those of an answer
-abbrev pub build_lines : Result (Option Layout) Answer → Answer → List (List ℕ)
-build_lines plan answer = lines_by plan answer (kind_of answer)
+abbrev pub build_lines : Result Graph Answer → Tree → Answer → List (List ℕ)
+build_lines plan after answer = lines_by plan after answer (kind_of answer)

@@ -1,9 +1,7 @@
 -- definitions that contracts cite
+pub mod Answering
 pub mod Asked
 pub mod Build
 pub mod BuildArm
-pub mod Layout
 pub mod Printed
 pub mod Run
-pub mod Stages
-pub mod Task

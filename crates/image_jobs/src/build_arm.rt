@@ -1,111 +1,81 @@
-ghost use Rattle.std.specs.Prelude.{◌≡◌, ◌≤◌, [], ◌∷◌};
+ghost use Rattle.std.specs.Prelude.{◌≡◌, ◌≤◌, [], ◌∷◌, All, IfErr, IfOk, OnOk, length};
 ghost use Rattle.outside.specs.Counts.{NoneFell};
 ghost use Rattle.answer_lines.specs.Answer.{error_text};
+ghost use Rattle.build_job.specs.Files.{StayOutside};
+ghost use Rattle.build_job.specs.Said.{sizes_of};
+ghost use Rattle.image_graph.specs.IsGraph.{IsGraph};
+ghost use Rattle.image_specs.specs.IsSpec.{IsSpec};
+ghost use Rattle.image_specs.specs.Specs.{full_names};
 ghost use Rattle.job_stages.specs.Printing.{Prints};
-ghost use Rattle.image_jobs.specs.Build.{conf_answer, planned};
-ghost use Rattle.image_jobs.specs.BuildArm.{BuildAnswers, BuildCause, BuildChanges, HasBuilt, build_lines};
+ghost use Rattle.image_jobs.specs.Build.{graph_said};
+ghost use Rattle.image_jobs.specs.BuildArm.{AllBuilt, BuildAnswers, BuildCause, BuildChanges, HasBuilt, IsComplete, IsShown, IsUnbuilt, build_lines};
 ghost use Rattle.image_jobs.specs.Printed.{IsRefusal};
-ghost use Rattle.image_jobs.specs.Stages.{compose_answer, place_answer, task_answer};
 
-use crate::building::{PlaceFault, ReadFault, SIZE_LIMIT, compose, place, read_task};
-use crate::printing::{refuse, report_built, report_nothing};
+use crate::answering::{answer_of_build, answer_of_read};
+use crate::printing::{refuse, report_built};
+use crate::reading::read_graph;
 use crate::request::Request;
-use crate::task::{OneImage, Task, TaskFault};
 use answer_lines::Answer;
-use base_fields::Name;
-use conf_sections::{ConfFault, Vars};
-use outside::{ComposeFault, Files, Printer};
+use base_fields::List;
+use build_job::build_images;
+use build_laws::{graphs_are_built, no_image_is_left_out};
+use conf_sections::Vars;
+use image_graph::Graph;
+use outside::{Files, Printer};
+use region_pool::Pool;
 use std::alloc::Global;
+
+/// How many bytes pass at a time.
+const BUFFER: u32 = 1 << 20;
 
 /// Does a build and prints its lines.
 pub fn run_build<F: Files, P: Printer>(
     alloc: Global,
-    request: &Request,
+    request: Request,
     vars: &Vars,
     files: &mut F,
     out: &mut P,
 ) -> Answer
-    ensures answers { F.told → BuildAnswers (planned request.now vars.now (F.file files.old)) result }
+    ensures answers { F.told → BuildAnswers (graph_said vars.now (F.file files.old) request) (F.file files.old) (F.file files.new) result }
     ensures cause { BuildCause (F.counts files.old) (F.counts files.new) (P.faults out.old) (P.faults out.new) result }
+    ensures complete { F.told → IsComplete (graph_said vars.now (F.file files.old) request) (F.file files.old) (F.file files.new) (F.counts files.old) (F.counts files.new) (P.faults out.old) (P.faults out.new) result }
     ensures none_fell { NoneFell (F.counts files.old) (F.counts files.new) }
     ensures none_fell_lines { P.faults out.old ≤ P.faults out.new }
-    ensures built { F.told → HasBuilt (planned request.now vars.now (F.file files.old)) (F.file files.old) (F.file files.new) result }
-    ensures changes { F.told → BuildChanges (planned request.now vars.now (F.file files.old)) (F.file files.old) (F.file files.new) }
-    ensures prints { F.told → Prints (build_lines (planned request.now vars.now (F.file files.old)) result) (P.lines out.old) (P.lines out.new) (P.faults out.old) (P.faults out.new) }
+    ensures built { F.told → HasBuilt (graph_said vars.now (F.file files.old) request) (F.file files.old) (F.file files.new) result }
+    ensures changes { F.told → BuildChanges (graph_said vars.now (F.file files.old) request) (F.file files.old) (F.file files.new) }
+    ensures prints { F.told → Prints (build_lines (graph_said vars.now (F.file files.old) request) (F.file files.new) result) (P.lines out.old) (P.lines out.new) (P.faults out.old) (P.faults out.new) }
     ensures refuses { IsRefusal result → Prints (error_text result ∷ []) (P.lines out.old) (P.lines out.new) (P.faults out.old) (P.faults out.new) }
 {
-    let one = match read_task(alloc, files, request, vars) {
-        Ok(Task::Image(one)) => one,
-        Ok(Task::Nothing) => return report_nothing(out),
-        Err(fault) => return refuse(answer_of_task(alloc, fault), out),
+    let graph = match read_graph(alloc, files, request, vars) {
+        Ok(graph) => graph,
+        Err(fault) => return refuse(answer_of_read(fault), out),
     };
-    let size = match place(files, &one) {
-        Ok(size) => size,
-        Err(fault) => return refuse(answer_of_place(one, fault), out),
+    match build_graph(alloc, files, &graph) {
+        Ok(sizes) => report_built(&graph, sizes.as_slice(), out),
+        Err(refusal) => refuse(refusal, out),
+    }
+}
+
+// Builds the images of a graph, and gives the bytes of each one's file in the graph's order.
+fn build_graph<F: Files>(alloc: Global, files: &mut F, graph: &Graph) -> Result<List<u64>, Answer>
+    requires graph { IsGraph graph.now }
+    requires specs { All IsSpec graph.now.specs }
+    ensures built { F.told → OnOk result (AllBuilt (F.file files.old) (F.file files.new) graph.now) }
+    ensures sizes { F.told → IfOk result (λ sizes. sizes ≡ sizes_of graph.now (F.file files.new)) }
+    ensures refused { F.told → IfErr result (IsUnbuilt graph.now (F.file files.old) (F.file files.new)) }
+    ensures shown { IfErr result (IsShown (F.counts files.old) (F.counts files.new)) }
+    ensures refusal { IfErr result IsRefusal }
+    ensures each { IfOk result (λ sizes. length sizes ≡ length graph.now.order) }
+    ensures none_fell { NoneFell (F.counts files.old) (F.counts files.new) }
+    ensures others { StayOutside (full_names graph.now.specs) (F.file files.old) (F.file files.new) }
+{
+    let Ok(mut pool) = Pool::new(alloc, 0, 1, BUFFER) else {
+        return Err(Answer::NoMemory);
     };
-    if let Err(fault) = compose(alloc, files, &one, size) {
-        return refuse(answer_of_compose(one, fault), out);
-    }
-    report_built(one.image.text(), size, out)
-}
-
-// The answer of a fault of the configuration or of what it asks for.
-fn answer_of_task(alloc: Global, fault: ReadFault) -> Answer
-    ensures { result ≡ task_answer fault }
-{
-    match fault {
-        ReadFault::Conf(fault) => answer_of_conf(fault),
-        ReadFault::Task(TaskFault::NotBuilt) => Answer::NotBuilt {
-            name: Name::from_string(String::new(alloc)),
-        },
-        ReadFault::Task(TaskFault::NoMemory) => Answer::NoMemory,
-    }
-}
-
-// The answer of a fault of the configuration.
-fn answer_of_conf(fault: ConfFault) -> Answer
-    ensures { result ≡ conf_answer fault }
-{
-    match fault {
-        ConfFault::BadText { name, place } => Answer::BadText { name, place },
-        ConfFault::UnknownKey { name, place } => Answer::UnknownKey { name, place },
-        ConfFault::BadValue { name, place } => Answer::BadValue { name, place },
-        ConfFault::Unset { var } => Answer::Unset { var },
-        ConfFault::DeepInclude { name } => Answer::DeepInclude { name },
-        ConfFault::TooLong { total } => Answer::TooLong { total },
-        ConfFault::Missing { name } => Answer::Missing { name },
-        ConfFault::SourceShort { name, at } => Answer::SourceShort { name, at },
-        ConfFault::FileFault => Answer::FileFault,
-        ConfFault::NoMemory => Answer::NoMemory,
-    }
-}
-
-// The answer of a fault of the placing.
-fn answer_of_place(one: OneImage, fault: PlaceFault) -> Answer
-    ensures { result ≡ place_answer one fault }
-{
-    match fault {
-        PlaceFault::Missing => Answer::Missing { name: one.source },
-        PlaceFault::FileFault => Answer::FileFault,
-        PlaceFault::TooFar { number } => Answer::TooFar {
-            part: one.part,
-            number,
-            limit: SIZE_LIMIT,
-        },
-    }
-}
-
-// The answer of a fault of the composing.
-fn answer_of_compose(one: OneImage, fault: ComposeFault) -> Answer
-    ensures { result ≡ compose_answer one fault }
-{
-    match fault {
-        ComposeFault::Missing { .. } => Answer::Missing { name: one.source },
-        ComposeFault::FileFault => Answer::FileFault,
-        ComposeFault::SourceShort { at, .. } => Answer::SourceShort {
-            name: one.source,
-            at,
-        },
-        ComposeFault::NoMemory => Answer::NoMemory,
+    graphs_are_built();
+    no_image_is_left_out();
+    match build_images(alloc, files, graph, &mut pool) {
+        Ok(sizes) => Ok(sizes),
+        Err(fault) => Err(answer_of_build(alloc, graph, fault)),
     }
 }

@@ -1,4 +1,4 @@
-ghost use Rattle.std.specs.Prelude.{◌≡◌, map, string_bytes, IfOk, IsErrOf, None, Some, unwrap_or};
+ghost use Rattle.std.specs.Prelude.{◌≡◌, map, string_bytes, IfOk, IsErrOf, None, Some};
 ghost use Rattle.image_jobs.specs.Asked.{asked};
 
 use base_fields::Name;
@@ -36,15 +36,5 @@ pub fn asked(alloc: Global, words: &Vec<String>) -> Result<Command, WordFault>
             output: outputpath,
         })),
         _ => Err(WordFault::Usage),
-    }
-}
-
-// The path that counts.
-pub fn path<'a>(words: &'a Option<Name>, conf: &'a Name) -> &'a str
-    ensures { result.now ≡ unwrap_or words.now conf.now }
-{
-    match words {
-        Some(path) => path.text(),
-        None => conf.text(),
     }
 }

@@ -4,7 +4,7 @@ ghost use Rattle.answer_lines.specs.Answer.{error_text};
 ghost use Rattle.job_stages.specs.Printing.{Prints};
 ghost use Rattle.image_jobs.specs.Printed.{IsRefusal};
 ghost use Rattle.image_jobs.specs.Asked.{asked};
-ghost use Rattle.image_jobs.specs.Run.{Answers, Changes, HasCause, HasMade, IsUsage, lines_of};
+ghost use Rattle.image_jobs.specs.Run.{Answers, Changes, Completes, HasCause, HasMade, IsUsage, lines_of};
 
 use crate::build_arm::run_build;
 use crate::printing::refuse;
@@ -15,7 +15,7 @@ use job_words::WordFault;
 use outside::{Files, Printer};
 use std::alloc::Global;
 
-/// Does what the words say, over these files, and prints its lines: `build CONF` makes the image of the
+/// Does what the words say, over these files, and prints its lines: `build CONF` makes the images of the
 /// configuration CONF, whose variables are these. Commands that aren't there yet are no words. Each clause goes by
 /// what the words ask for; the plan is a function of that, of the variables and of the files as they are told.
 pub fn run<F: Files, P: Printer>(
@@ -27,17 +27,20 @@ pub fn run<F: Files, P: Printer>(
 ) -> Answer
     ensures usage { IsUsage (asked (map string_bytes words.now.items)) result }
 
-    // The answer is the planned one, or a counted fault, or a want of memory.
-    ensures answers { F.told → Answers (asked (map string_bytes words.now.items)) vars.now (F.file files.old) result }
+    // All images are built, or the first refusal is answered, or a counted fault, or a want of memory.
+    ensures answers { F.told → Answers (asked (map string_bytes words.now.items)) vars.now (F.file files.old) (F.file files.new) result }
     ensures cause { HasCause (asked (map string_bytes words.now.items)) (F.counts files.old) (F.counts files.new) (P.faults out.old) (P.faults out.new) result }
+    // Where no call and no line failed, the work is done, or what is wanted is refused, or memory is.
+    ensures complete { F.told → Completes (asked (map string_bytes words.now.items)) vars.now (F.file files.old) (F.file files.new) (F.counts files.old) (F.counts files.new) (P.faults out.old) (P.faults out.new) result }
     ensures none_fell { NoneFell (F.counts files.old) (F.counts files.new) }
     ensures none_fell_lines { P.faults out.old ≤ P.faults out.new }
 
-    // Where the work is done, each byte of the image is the one that the layout names. Every other name is as before.
+    // Where the work is done, each byte of each image is the one that its layout names, parts and tables lie apart, and the
+    // tables read back. Whatever is answered, every name but those of the images is as before.
     ensures built { F.told → HasMade (asked (map string_bytes words.now.items)) vars.now (F.file files.old) (F.file files.new) result }
     ensures changes { F.told → Changes (asked (map string_bytes words.now.items)) vars.now (F.file files.old) (F.file files.new) }
 
-    ensures prints { F.told → Prints (lines_of (asked (map string_bytes words.now.items)) vars.now (F.file files.old) result) (P.lines out.old) (P.lines out.new) (P.faults out.old) (P.faults out.new) }
+    ensures prints { F.told → Prints (lines_of (asked (map string_bytes words.now.items)) vars.now (F.file files.old) (F.file files.new) result) (P.lines out.old) (P.lines out.new) (P.faults out.old) (P.faults out.new) }
     // The line of a refusal is a matter of the answer alone.
     ensures refuses { IsRefusal result → Prints (error_text result ∷ []) (P.lines out.old) (P.lines out.new) (P.faults out.old) (P.faults out.new) }
 {
@@ -47,6 +50,6 @@ pub fn run<F: Files, P: Printer>(
         Err(WordFault::NoMemory) => return refuse(Answer::NoMemory, out),
     };
     match command {
-        Command::Build(request) => run_build(alloc, &request, vars, files, out),
+        Command::Build(request) => run_build(alloc, request, vars, files, out),
     }
 }
