@@ -17,7 +17,7 @@ use Rattle.outside.specs.Files.{OthersStay, Tree}
 use Rattle.outside.specs.declared.files.ComposeFault.{ComposeFault}
 use Rattle.outside.specs.declared.files.ComposeFault.TheVariants as compose
 use Rattle.outside.specs.declared.files.FileErr.{FileErr}
-use Rattle.outside.specs.declared.files.FileErr.TheVariants as length
+use Rattle.outside.specs.declared.files.FileErr.TheVariants as measure
 use Rattle.build_job.specs.Said.{first_source, sparse_said}
 use Rattle.build_job.specs.declared.faults.BuildFault.{BuildFault}
 use Rattle.build_job.specs.declared.faults.BuildFault.TheVariants.{Plan, Compose, Measure, NoMemory}
@@ -38,8 +38,8 @@ IsComposeShown before now (compose.SourceShort part at) = Rose before.ends now.e
 IsComposeShown before now compose.NoMemory = Unit {0}
 
 abbrev pub IsLengthShown : Counts → Counts → FileErr → Type 0
-IsLengthShown before now length.Missing = Rose before.absences now.absences
-IsLengthShown before now length.Failed = Rose before.faults now.faults
+IsLengthShown before now measure.Missing = Rose before.absences now.absences
+IsLengthShown before now measure.Failed = Rose before.faults now.faults
 
 abbrev pub IsShown : Counts → Counts → BuildFault → Type 0
 IsShown before now (Plan image fault) = IsPlanShown before now fault
@@ -126,7 +126,7 @@ pub record IsStopped (graph : Graph) (before after : Tree) (fault : BuildFault) 
 abbrev pub IsUnmeasured : BuildFault → Type 0
 IsUnmeasured (Plan image fault) = ⊥
 IsUnmeasured (Compose image fault) = ⊥
-IsUnmeasured (Measure image fault) = fault ≡ length.Failed
+IsUnmeasured (Measure image fault) = fault ≡ measure.Failed
 IsUnmeasured NoMemory = Unit {0}
 
 -- all are built, and their files' lengths are not given

@@ -5,7 +5,7 @@ use Rattle.base_fields.specs.Results.{◌>>=◌, refused_by}
 use Rattle.outside.specs.Counts.{Counts}
 use Rattle.outside.specs.Files.{Tree}
 use Rattle.outside.specs.declared.files.ComposeFault.TheVariants as compose
-use Rattle.outside.specs.declared.files.FileErr.TheVariants as length
+use Rattle.outside.specs.declared.files.FileErr.TheVariants as measure
 use Rattle.answer_lines.specs.Answer.{error_text}
 use Rattle.answer_lines.specs.Kind.{Kind, Finished, LineFailed, Counted, Refused, kind_of}
 use Rattle.answer_lines.specs.declared.answer.Answer.{Answer}
@@ -83,8 +83,8 @@ build_shown graph before now (build.Compose image (compose.Missing part)) h = h
 build_shown graph before now (build.Compose image compose.FileFault) h = h
 build_shown graph before now (build.Compose image (compose.SourceShort part at)) h = h
 build_shown graph before now (build.Compose image compose.NoMemory) h = tt
-build_shown graph before now (build.Measure image length.Missing) h = h
-build_shown graph before now (build.Measure image length.Failed) h = h
+build_shown graph before now (build.Measure image measure.Missing) h = h
+build_shown graph before now (build.Measure image measure.Failed) h = h
 build_shown graph before now build.NoMemory h = tt
 
 copied_shown : (before now : Counts) (wanted got : Answer) → IsCopied wanted got → IsShown before now wanted → IsShown before now got

@@ -4,7 +4,7 @@ use Rattle.std.specs.Prelude.{◌≡◌, ℕ, ◌⊎◌, Bool, true, false, List
 use Rattle.outside.specs.declared.files.ComposeFault.{ComposeFault}
 use Rattle.outside.specs.declared.files.ComposeFault.TheVariants as compose
 use Rattle.outside.specs.declared.files.FileErr.{FileErr}
-use Rattle.outside.specs.declared.files.FileErr.TheVariants as length
+use Rattle.outside.specs.declared.files.FileErr.TheVariants as measure
 use Rattle.answer_lines.specs.Kind.{Kind, Finished, LineFailed, Counted, Refused, kind_of}
 use Rattle.answer_lines.specs.declared.answer.Answer.{Answer}
 use Rattle.answer_lines.specs.declared.answer.Answer.TheVariants as answer
@@ -89,8 +89,8 @@ compose_answer graph image compose.NoMemory = answer.NoMemory
 
 -- the length of an image's own file
 abbrev pub length_answer : Graph → ℕ → FileErr → Answer
-length_answer graph image length.Missing = answer.Missing (full_at graph image)
-length_answer graph image length.Failed = answer.FileFault
+length_answer graph image measure.Missing = answer.Missing (full_at graph image)
+length_answer graph image measure.Failed = answer.FileFault
 
 abbrev pub build_answer : Graph → BuildFault → Answer
 build_answer graph (build.Plan image fault) = plan_answer graph image fault
