@@ -16,9 +16,9 @@ abbrev pub slot_in : List ℕ → ℕ → GptEntry
 slot_in entries k = slot_at (image_of entries) (128 * k)
 
 -- the numbers, from 0, of the slots in use below a number
-unfoldable pub used_below : List ℕ → ℕ → List ℕ
-used_below entries zero = []
-used_below entries (suc k) = used_below entries k ++ (if is_used (slot_in entries k) then k ∷ [] else [])
+unfoldable pub used_below : (ℕ → GptEntry) → ℕ → List ℕ
+used_below slot zero = []
+used_below slot (suc k) = used_below slot k ++ (if is_used (slot k) then k ∷ [] else [])
 
 -- the table: the entries in use stand with the numbers of their slots, from 1
 abbrev pub table_of : List ℕ → List ℕ → GptTable
@@ -26,6 +26,6 @@ table_of head entries = record {
   disk = guid_at (image_of head) 56;
   first_usable = said head 40 8;
   last_usable = said head 48 8;
-  entries = map (slot_in entries) (used_below entries 128);
-  slots = map (λ k. k + 1) (used_below entries 128);
+  entries = map (slot_in entries) (used_below (slot_in entries) 128);
+  slots = map (λ k. k + 1) (used_below (slot_in entries) 128);
 }

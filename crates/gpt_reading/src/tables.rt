@@ -33,8 +33,8 @@ struct UsedSlots {
 /// The slots in use among the 128 in these bytes.
 fn used_slots(alloc: Global, bytes: &[u8]) -> Result<UsedSlots, NoMemory>
     requires { 16384 ≤ length bytes.now }
-    ensures entries { IfOk result (λ used. used.entries ≡ map (slot_in bytes.now) (used_below bytes.now 128)) }
-    ensures slots { IfOk result (λ used. used.slots ≡ map (λ k. k + 1) (used_below bytes.now 128)) }
+    ensures entries { IfOk result (λ used. used.entries ≡ map (slot_in bytes.now) (used_below (slot_in bytes.now) 128)) }
+    ensures slots { IfOk result (λ used. used.slots ≡ map (λ k. k + 1) (used_below (slot_in bytes.now) 128)) }
 {
     let mut entries = List::new(alloc);
     let mut slots = List::new(alloc);

@@ -1,5 +1,5 @@
 -- What an answer says of a file's bytes, and of the counts of the files.
-use Rattle.std.specs.Prelude.{◌≡◌, ◌≢◌, ℕ, ◌^◌, ◌<◌, ◌%◌, List, length, Result, Ok, Err}
+use Rattle.std.specs.Prelude.{◌≡◌, ◌≢◌, ℕ, ◌≤◌, ◌%◌, List, [], Option, None, Some, length, Result, Ok, Err}
 use Rattle.outside.specs.Counts.{Counts, Rose}
 use Rattle.outside.specs.Files.{Tree, IsThere, bytes_of}
 use Rattle.base_fields.specs.Results.{or_else}
@@ -26,14 +26,19 @@ abbrev pub HasLength : Tree → List ℕ → Result ℕ TableFault → Type 0
 HasLength file name (Ok len) = IsThere file name (len ≡ length (bytes_of file name))
 HasLength file name (Err refusal) = Refuses (or_else (file name) fault.Missing) refusal
 
--- a failed call and a missing name come only where their count rose; a file can be short by its length alone; two sums
--- differ; a bad record begins a sector
+-- a failed call and a missing name come only where their count rose; two sums differ; a bad record begins a sector. That
+-- a file is short can be seen by its length alone
 abbrev pub HasCause : Counts → Counts → TableFault → Type 0
 HasCause before now fault.FileFault = Rose before.faults now.faults
 HasCause before now fault.Missing = Rose before.absences now.absences
-HasCause before now (fault.Short at) = at < 2 ^ 64
+HasCause before now (fault.Short at) = Unit {0}
 HasCause before now (fault.BadSum at want got) = want ≢ got
 HasCause before now (fault.BadChain at) = at % 512 ≡ 0
-HasCause before now (fault.BadGpt at) = at < 2 ^ 64
+HasCause before now (fault.BadGpt at) = Unit {0}
 HasCause before now fault.NoTable = Unit {0}
 HasCause before now fault.NoMemory = Unit {0}
+
+-- the one refusal of a backup that isn't that of its table
+abbrev pub IsBadGpt : TableFault → Type 0
+IsBadGpt (fault.BadGpt at) = Unit {0}
+IsBadGpt refusal = ⊥

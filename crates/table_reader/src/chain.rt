@@ -1,5 +1,5 @@
 //! The chain of boot records of an extended partition.
-ghost use Rattle.std.specs.Prelude.{◌≡◌, ◌^◌, ◌<◌, IfErr, IfOk, IfSome, length};
+ghost use Rattle.std.specs.Prelude.{◌≡◌, ◌^◌, ◌<◌, ◌≤◌, IfErr, IfOk, IfSome, length};
 ghost use Rattle.outside.specs.Counts.{NoneFell};
 ghost use Rattle.outside.specs.Files.{IsThere, bytes_of};
 ghost use Rattle.table_reader.specs.Answers.{Answers, HasCause};
@@ -58,6 +58,7 @@ fn read_chain<F: Files>(
     ensures none_fell { NoneFell (F.counts files.old) (F.counts files.new) }
     ensures cause { IfErr result (HasCause (F.counts files.old) (F.counts files.new)) }
     ensures same_files { F.file files.new ≡ F.file files.old }
+    ensures few { IfOk result (λ logical. length logical ≤ 256) }
     ensures answers { F.told → Answers (chain_of (bytes_of (F.file files.old) name.now) start) result }
 {
     let mut logical = List::new(alloc);
@@ -89,6 +90,7 @@ pub fn read_logical<F: Files>(
     ensures none_fell { NoneFell (F.counts files.old) (F.counts files.new) }
     ensures cause { IfErr result (HasCause (F.counts files.old) (F.counts files.new)) }
     ensures same_files { F.file files.new ≡ F.file files.old }
+    ensures few { IfOk result (λ logical. length logical ≤ 256) }
     ensures answers { F.told → Answers (logical_of (bytes_of (F.file files.old) name.now) spec.now) result }
 {
     let slot = extended_slot(spec);

@@ -1,6 +1,6 @@
 //! A header of a GUID partition table with its entries.
 ghost use Rattle.std.specs.Prelude.{◌≡◌, ◌+◌, ◌*◌, ◌^◌, ◌<◌, ◌≤◌, IfErr, IfOk, OnOk, length};
-ghost use Rattle.outside.specs.Counts.{NoneFell};
+ghost use Rattle.outside.specs.Counts.{Counts, NoneFell};
 ghost use Rattle.outside.specs.Files.{IsThere, bytes_of};
 ghost use Rattle.table_reader.specs.Answers.{Answers, HasCause, Reads};
 ghost use Rattle.table_reader.specs.Halves.{ReadsHalf, entries_at as start_of, entries_of, half_of, header_of, refusal_at as refusal_of};
@@ -20,6 +20,7 @@ fn refusal_at(at: u64, fault: HeaderFault) -> TableFault
     requires near { at + 92 < 2 ^ 64 }
     requires fault { IsHeaderFault fault }
     ensures exact { result ≡ refusal_of at fault }
+    ensures cause { (before now : Counts) → HasCause before now result }
 {
     match fault {
         HeaderFault::Field { at: field } => TableFault::BadGpt { at: at + field },

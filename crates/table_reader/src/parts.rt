@@ -30,6 +30,7 @@ pub fn read_part<F: Files>(
     at: u128,
     buf: &mut [u8],
 ) -> Result<(), TableFault>
+    requires some { 0 < length buf.old }
     requires near { at < 2 ^ 100 }
     requires there { F.told → IsThere (F.file files.old) name.now (len ≡ length (bytes_of (F.file files.old) name.now)) }
     ensures none_fell { NoneFell (F.counts files.old) (F.counts files.new) }

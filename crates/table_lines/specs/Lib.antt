@@ -1,0 +1,3 @@
+-- definitions that contracts cite
+pub use Rattle.line_parts.specs.Line
+pub mod TableLines

@@ -1,0 +1,3 @@
+-- lemmas
+pub mod ChainSteps
+pub mod Fronts
