@@ -198,13 +198,13 @@ joined image other o p at n m first second e j h = both_show image other o p at 
 
 slot_show : (image other : ℕ → ℕ) (o p : ℕ) → AreSmall image → AreSmall other → entry_at image o ≡ entry_at other p → Same image other o p 128
 slot_show image other o p small less e =
-    let kind = guid_show image other o p (ap (λ (x : GptEntry). x.kind) e) in
+    let type_is = guid_show image other o p (ap (λ (x : GptEntry). x.kind) e) in
     let own = guid_show image other (o + 16) (p + 16) (ap (λ (x : GptEntry). x.own) e) in
     let first = numbers_show image other (o + 32) (p + 32) 8 small less (ap (λ (x : GptEntry). x.first) e) in
     let last = numbers_show image other (o + 40) (p + 40) 8 small less (ap (λ (x : GptEntry). x.last) e) in
     let attrs = numbers_show image other (o + 48) (p + 48) 8 small less (ap (λ (x : GptEntry). x.attrs) e) in
     let name = units_show image other (o + 56) (p + 56) 36 small less (ap (λ (x : GptEntry). x.name) e) in
-    let to_32 = joined image other o p 16 16 32 kind own refl in
+    let to_32 = joined image other o p 16 16 32 type_is own refl in
     let to_40 = joined image other o p 32 8 40 to_32 first refl in
     let to_48 = joined image other o p 40 8 48 to_40 last refl in
     let to_56 = joined image other o p 48 8 56 to_48 attrs refl in
