@@ -75,7 +75,7 @@ says_more bytes start sector boot reads more later same =
 
 says_by : (bytes : List ℕ) (start sector : ℕ) (boot : BootRecord) →
     Cases (is_marked (sector_in bytes sector)) (is_empty (own_in (sector_in bytes sector))) (is_empty (link_in (sector_in bytes sector))) (nat_lt sector (start + (link_in (sector_in bytes sector)).first))
-      (boot_record (logical_in sector (sector_in bytes sector)) None) (boot_record (logical_in sector (sector_in bytes sector)) (Some (start + (link_in (sector_in bytes sector)).first))) boot →
+    (boot_record (logical_in sector (sector_in bytes sector)) None) (boot_record (logical_in sector (sector_in bytes sector)) (Some (start + (link_in (sector_in bytes sector)).first))) boot →
     Says bytes start sector boot
 says_by bytes start sector boot (marked, used, inl (last, same)) = says_last bytes start sector boot (reads_of bytes sector marked used) last same
 says_by bytes start sector boot (marked, used, inr (more, later, same)) = says_more bytes start sector boot (reads_of bytes sector marked used) more later same

@@ -121,27 +121,42 @@ half_is bytes z b header slot backup r =
     let image : ℕ → ℕ = image_of bytes in
     let h : ℕ = header.own * z in
     let head : List ℕ = head_there bytes z header.own in
-    let at = λ (o w : ℕ) (within : o + w ≤ 92). piece_number bytes h 92 o w within in
+    let field = λ (o w : ℕ) (within : o + w ≤ 92). piece_number bytes h 92 o w within in
     let start : h + 0 ≡ h = omega arith in
-    let entries : said head 72 8 ≡ header.entries_at = at 72 8 (omega arith) ∙ ap (λ (x : GptHeader). x.entries_at) r.says in
+    let entries : said head 72 8 ≡ header.entries_at = field 72 8 (omega arith) ∙ ap (λ (x : GptHeader). x.entries_at) r.says in
     let none : first_unmet (demands header.own b head) ≡ None = none_unmet (demands header.own b head) (
-      eq-eqb _ _ (at 0 8 (omega arith) ∙ (ap (λ (o : ℕ). number_at image o 8) start ∙ signature_number image h r.signature)),
-      (eq-eqb _ _ (at 8 4 (omega arith) ∙ revision_number image (h + 8) r.revision),
-      (eq-eqb _ _ (at 12 4 (omega arith) ∙ r.size),
-      (eq-eqb _ _ (at 20 4 (omega arith) ∙ r.reserved),
-      (eq-eqb _ _ (at 24 8 (omega arith) ∙ ap (λ (x : GptHeader). x.own) r.says),
-      (or_by b (said head 32 8 == 1) (λ is. eq-eqb _ _ (at 32 8 (omega arith) ∙ (ap (λ (x : GptHeader). x.other) r.says ∙ backup is))),
-      (some_test (said head 72 8) (λ zero_is. r.has_entries (sym entries ∙ zero_is)),
-      (eq-eqb _ _ (at 80 4 (omega arith) ∙ r.slot_count),
-      (eq-eqb _ _ (at 84 4 (omega arith) ∙ r.slot_size), tt))))))))) in
-    let sum : said head 16 4 ≡ sum_of head = at 16 4 (omega arith) ∙ (r.sum ∙ ap crc32_of (sym (summed_bytes bytes h r.inside))) in
+      eq-eqb _ _ (field 0 8 (omega arith) ∙ (ap (λ (o : ℕ). number_at image o 8) start ∙ signature_number image h r.signature)),
+      (
+        eq-eqb _ _ (field 8 4 (omega arith) ∙ revision_number image (h + 8) r.revision),
+        (
+          eq-eqb _ _ (field 12 4 (omega arith) ∙ r.size),
+          (
+            eq-eqb _ _ (field 20 4 (omega arith) ∙ r.reserved),
+            (
+              eq-eqb _ _ (field 24 8 (omega arith) ∙ ap (λ (x : GptHeader). x.own) r.says),
+              (
+                or_by b (said head 32 8 == 1) (λ is. eq-eqb _ _ (field 32 8 (omega arith) ∙ (ap (λ (x : GptHeader). x.other) r.says ∙ backup is))),
+                (
+                  some_test (said head 72 8) (λ zero_is. r.has_entries (sym entries ∙ zero_is)),
+                  (
+                    eq-eqb _ _ (field 80 4 (omega arith) ∙ r.slot_count),
+                    (eq-eqb _ _ (field 84 4 (omega arith) ∙ r.slot_size), tt),
+                  ),
+                ),
+              ),
+            ),
+          ),
+        ),
+      ),
+    ) in
+    let sum : said head 16 4 ≡ sum_of head = field 16 4 (omega arith) ∙ (r.sum ∙ ap crc32_of (sym (summed_bytes bytes h r.inside))) in
     let inside : entries_at head z + 16384 ≤ length bytes = subst (λ (n : ℕ). n * z + 16384 ≤ length bytes) (sym entries) r.entries_inside in
     record {
       inside = r.inside;
       right = ap (λ (o : Option ℕ). or_sum o head) none ∙ sum_none 0 0 head sum;
       entries_inside = inside;
-      sum = at 88 4 (omega arith) ∙ (ap (λ (x : GptHeader). x.entries_sum) r.says ∙ (r.entries_sum
-        ∙ (ap (λ (n : ℕ). crc32_of (bytes_at image (n * z) 16384)) (sym entries) ∙ ap crc32_of (sym (bytes_here bytes (entries_at head z) 16384 inside)))));
+      sum = field 88 4 (omega arith) ∙ (ap (λ (x : GptHeader). x.entries_sum) r.says ∙ (r.entries_sum
+          ∙ (ap (λ (n : ℕ). crc32_of (bytes_at image (n * z) 16384)) (sym entries) ∙ ap crc32_of (sym (bytes_here bytes (entries_at head z) 16384 inside)))));
     }
 
 half_found : (bytes : List ℕ) (z own : ℕ) (b : Bool) → IsHalf bytes z own b → half_of bytes z own b ≡ Ok (half (head_there bytes z own) (entries_there bytes z own))
@@ -175,11 +190,12 @@ guid_show image other o p e =
 both_show : (image other : ℕ → ℕ) (o p n m : ℕ) → Same image other o p n → Same image other (o + n) (p + n) m → Same image other o p (n + m)
 both_show image other o p n m first second j h =
     elim (cases_lt j n) [
-      inl low ↦ first j low
-    | inr high ↦
-        let there : o + j ≡ o + n + (j - n) = omega arith in
-        let back : p + n + (j - n) ≡ p + j = omega arith in
-        ap image there ∙ (second (j - n) (omega arith) ∙ ap other back) ]
+      | inl low ↦ first j low
+      | inr high ↦
+          let there : o + j ≡ o + n + (j - n) = omega arith in
+          let back : p + n + (j - n) ≡ p + j = omega arith in
+          ap image there ∙ (second (j - n) (omega arith) ∙ ap other back)
+    ]
 
 units_show : (image other : ℕ → ℕ) (o p n : ℕ) → AreSmall image → AreSmall other → units_at image o n ≡ units_at other p n → Same image other o p (2 * n)
 unfolding units_at
@@ -265,15 +281,18 @@ agree bytes z front back slot r b =
     same_number image image (back.own * z + 56) (front.own * z + 56) 8 (λ j h. shows j (omega arith)) in
     let high : number_at image (back.own * z + 64) 8 ≡ number_at image (front.own * z + 64) 8 =
     same_number image image (back.own * z + 64) (front.own * z + 64) 8 (λ j h.
-      let up : back.own * z + 64 + j ≡ back.own * z + 56 + (8 + j) = omega arith in
-      let down : front.own * z + 56 + (8 + j) ≡ front.own * z + 64 + j = omega arith in
-      ap image up ∙ (shows (8 + j) (omega arith) ∙ ap image down)) in
+    let up : back.own * z + 64 + j ≡ back.own * z + 56 + (8 + j) = omega arith in
+    let down : front.own * z + 56 + (8 + j) ≡ front.own * z + 64 + j = omega arith in
+    ap image up ∙ (shows (8 + j) (omega arith) ∙ ap image down)) in
     let one : (said (head_there bytes z back.own) 56 8 == said (head_there bytes z front.own) 56 8) ≡ true = eq-eqb _ _ (there 56 8 (omega arith) ∙ (low ∙ sym (here 56 8 (omega arith)))) in
     let two : (said (head_there bytes z back.own) 64 8 == said (head_there bytes z front.own) 64 8) ≡ true = eq-eqb _ _ (there 64 8 (omega arith) ∙ (high ∙ sym (here 64 8 (omega arith)))) in
     none_unmet (agreements (head_there bytes z front.own) (head_there bytes z back.own)) (
       eq-eqb _ _ (there 40 8 (omega arith) ∙ (ap (λ (x : GptHeader). x.first_usable) b.header.says ∙ (b.first_usable ∙ sym (here 40 8 (omega arith) ∙ ap (λ (x : GptHeader). x.first_usable) r.says)))),
-      (eq-eqb _ _ (there 48 8 (omega arith) ∙ (ap (λ (x : GptHeader). x.last_usable) b.header.says ∙ (b.last_usable ∙ sym (here 48 8 (omega arith) ∙ ap (λ (x : GptHeader). x.last_usable) r.says)))),
-      (rw (one, two) refl, tt)))
+      (
+        eq-eqb _ _ (there 48 8 (omega arith) ∙ (ap (λ (x : GptHeader). x.last_usable) b.header.says ∙ (b.last_usable ∙ sym (here 48 8 (omega arith) ∙ ap (λ (x : GptHeader). x.last_usable) r.says)))),
+        (rw (one, two) refl, tt),
+      ),
+    )
 
 differs_nowhere : (bytes : List ℕ) (z : ℕ) (front back : GptHeader) (slot : ℕ → GptEntry) → AreSmall (image_of bytes) → ReadsHeader (image_of bytes) (length bytes) z front slot → ReadsBackup (image_of bytes) (length bytes) z front back slot →
     unlike z back.own (half (head_there bytes z front.own) (entries_there bytes z front.own)) (half (head_there bytes z back.own) (entries_there bytes z back.own)) ≡ None
@@ -345,9 +364,9 @@ table_same bytes z front slot r =
     let head : List ℕ = head_there bytes z front.own in
     let raw : ℕ → GptEntry = slot_in (entries_there bytes z front.own) in
     let same : (k : ℕ) → k < 128 → raw k ≡ slot k = λ k h.
-      ap (λ (xs : List ℕ). slot_in xs k) (entries_same bytes z front slot r)
-      ∙ (same_slot (image_of (piece bytes (front.entries_at * z) 16384)) image (128 * k) (front.entries_at * z + 128 * k) (piece_bytes bytes (front.entries_at * z) 16384 (128 * k) 128 (omega arith))
-      ∙ r.slots k h) in
+    ap (λ (xs : List ℕ). slot_in xs k) (entries_same bytes z front slot r)
+    ∙ (same_slot (image_of (piece bytes (front.entries_at * z) 16384)) image (128 * k) (front.entries_at * z + 128 * k) (piece_bytes bytes (front.entries_at * z) 16384 (128 * k) 128 (omega arith))
+    ∙ r.slots k h) in
     let disk : guid_at (image_of head) 56 ≡ front.disk = same_guid (image_of head) image 56 (front.own * z + 56) (piece_bytes bytes (front.own * z) 92 56 16 (omega arith)) ∙ ap (λ (x : GptHeader). x.disk) r.says in
     let first : said head 40 8 ≡ front.first_usable = piece_number bytes (front.own * z) 92 40 8 (omega arith) ∙ ap (λ (x : GptHeader). x.first_usable) r.says in
     let last : said head 48 8 ≡ front.last_usable = piece_number bytes (front.own * z) 92 48 8 (omega arith) ∙ ap (λ (x : GptHeader). x.last_usable) r.says in

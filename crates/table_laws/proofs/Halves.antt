@@ -98,9 +98,10 @@ half_there bytes z own b found e =
     let q = bind_ok (entries_of bytes z (own * z) p.0) (λ entries. Ok (half p.0 entries)) found p.2 in
     let moved : entries_of bytes z (own * z) (head_there bytes z own) ≡ Ok q.0 = subst (λ (xs : List ℕ). entries_of bytes z (own * z) xs ≡ Ok q.0) head.2 q.1 in
     let entries = entries_are_there bytes z (own * z) (head_there bytes z own) q.0 moved in
-    let same : half p.0 q.0 ≡ found = let all = q.2 in cc in
-    (record { inside = head.0; right = head.1; entries_inside = entries.0; sum = entries.1 },
-     sym same ∙ (ap (λ (xs : List ℕ). half xs q.0) head.2 ∙ ap (λ (xs : List ℕ). half (head_there bytes z own) xs) entries.2))
+    let same : half p.0 q.0 ≡ found = let all = q.2 in cc in (
+      record { inside = head.0; right = head.1; entries_inside = entries.0; sum = entries.1 },
+      sym same ∙ (ap (λ (xs : List ℕ). half xs q.0) head.2 ∙ ap (λ (xs : List ℕ). half (head_there bytes z own) xs) entries.2),
+    )
 
 -- ---- what it reads as
 
@@ -203,24 +204,25 @@ reads_half bytes z own b small is =
     let e : ℕ = entries_at head z in
     let right = right_by (first_unmet (demands own b head)) head is.right in
     let met = all_met (demands own b head) right.0 in
-    let at = λ (o w : ℕ) (within : o + w ≤ 92). sym (piece_number bytes h 92 o w within) in
-    let start : h ≡ h + 0 = omega arith in
-    (record {
-      inside = is.inside;
-      signature = signature_read (image_of bytes) h small (ap (λ (o : ℕ). number_at (image_of bytes) o 8) start ∙ (at 0 8 (omega arith) ∙ eqb-true _ _ met.0));
-      revision = revision_read (image_of bytes) (h + 8) small (at 8 4 (omega arith) ∙ eqb-true _ _ met.1.0);
-      size = at 12 4 (omega arith) ∙ eqb-true _ _ met.1.1.0;
-      sum = at 16 4 (omega arith) ∙ (right.1 ∙ ap crc32_of (summed_bytes bytes h is.inside));
-      reserved = at 20 4 (omega arith) ∙ eqb-true _ _ met.1.1.1.0;
-      says = refl;
-      has_entries = λ none. nonzero true (said head 72 8) met.1.1.1.1.1.1.0 (piece_number bytes h 92 72 8 (omega arith) ∙ none);
-      slot_count = at 80 4 (omega arith) ∙ eqb-true _ _ met.1.1.1.1.1.1.1.0;
-      slot_size = at 84 4 (omega arith) ∙ eqb-true _ _ met.1.1.1.1.1.1.1.1.0;
-      entries_inside = is.entries_inside;
-      entries_sum = at 88 4 (omega arith) ∙ (is.sum ∙ ap crc32_of (bytes_here bytes e 16384 is.entries_inside));
-      slots = λ k below. sym (same_slot (image_of (piece bytes e 16384)) (image_of bytes) (128 * k) (e + 128 * k) (piece_bytes bytes e 16384 (128 * k) 128 (omega arith)));
-    },
-    at 24 8 (omega arith) ∙ eqb-true _ _ met.1.1.1.1.0)
+    let field = λ (o w : ℕ) (within : o + w ≤ 92). sym (piece_number bytes h 92 o w within) in
+    let start : h ≡ h + 0 = omega arith in (
+      record {
+        inside = is.inside;
+        signature = signature_read (image_of bytes) h small (ap (λ (o : ℕ). number_at (image_of bytes) o 8) start ∙ (field 0 8 (omega arith) ∙ eqb-true _ _ met.0));
+        revision = revision_read (image_of bytes) (h + 8) small (field 8 4 (omega arith) ∙ eqb-true _ _ met.1.0);
+        size = field 12 4 (omega arith) ∙ eqb-true _ _ met.1.1.0;
+        sum = field 16 4 (omega arith) ∙ (right.1 ∙ ap crc32_of (summed_bytes bytes h is.inside));
+        reserved = field 20 4 (omega arith) ∙ eqb-true _ _ met.1.1.1.0;
+        says = refl;
+        has_entries = λ none. nonzero true (said head 72 8) met.1.1.1.1.1.1.0 (piece_number bytes h 92 72 8 (omega arith) ∙ none);
+        slot_count = field 80 4 (omega arith) ∙ eqb-true _ _ met.1.1.1.1.1.1.1.0;
+        slot_size = field 84 4 (omega arith) ∙ eqb-true _ _ met.1.1.1.1.1.1.1.1.0;
+        entries_inside = is.entries_inside;
+        entries_sum = field 88 4 (omega arith) ∙ (is.sum ∙ ap crc32_of (bytes_here bytes e 16384 is.entries_inside));
+        slots = λ k below. sym (same_slot (image_of (piece bytes e 16384)) (image_of bytes) (128 * k) (e + 128 * k) (piece_bytes bytes e 16384 (128 * k) 128 (omega arith)));
+      },
+      field 24 8 (omega arith) ∙ eqb-true _ _ met.1.1.1.1.0,
+    )
 
 -- a half that is read is a header with its entries
 pub header_reads : (bytes : List ℕ) (z own : ℕ) (b : Bool) → AreSmall (image_of bytes) → IsHalf bytes z own b →

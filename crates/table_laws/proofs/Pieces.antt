@@ -77,9 +77,10 @@ both_true false b e = absurd (cc)
 
 pub marked_there : (bytes : List ℕ) (at : ℕ) → is_marked (piece bytes at 512) ≡ true → IsMarked (image_of bytes) at
 marked_there bytes at e =
-    let both = both_true (slice_index (piece bytes at 512) 510 == 0x55) (slice_index (piece bytes at 512) 511 == 0xAA) e in
-    (sym (piece_byte bytes at 512 510 (omega arith)) ∙ eqb-true _ _ both.0,
-     sym (piece_byte bytes at 512 511 (omega arith)) ∙ eqb-true _ _ both.1)
+    let both = both_true (slice_index (piece bytes at 512) 510 == 0x55) (slice_index (piece bytes at 512) 511 == 0xAA) e in (
+      sym (piece_byte bytes at 512 510 (omega arith)) ∙ eqb-true _ _ both.0,
+      sym (piece_byte bytes at 512 511 (omega arith)) ∙ eqb-true _ _ both.1,
+    )
 
 pub is_marked_there : (bytes : List ℕ) (at : ℕ) → IsMarked (image_of bytes) at → is_marked (piece bytes at 512) ≡ true
 is_marked_there bytes at marked =

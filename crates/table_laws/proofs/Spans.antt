@@ -92,8 +92,9 @@ numbers_show image other o p (suc n) small less e (suc j) h =
 pub two_show : (image other : ℕ → ℕ) (o p : ℕ) → AreSmall image → AreSmall other → number_at image o 8 ≡ number_at other p 8 → number_at image (o + 8) 8 ≡ number_at other (p + 8) 8 → Same image other o p 16
 two_show image other o p small less first second j h =
     elim (cases_lt j 8) [
-      inl low ↦ numbers_show image other o p 8 small less first j low
-    | inr high ↦
-        let there : o + j ≡ o + 8 + (j - 8) = omega arith in
-        let back : p + 8 + (j - 8) ≡ p + j = omega arith in
-        ap image there ∙ (numbers_show image other (o + 8) (p + 8) 8 small less second (j - 8) (omega arith) ∙ ap other back) ]
+      | inl low ↦ numbers_show image other o p 8 small less first j low
+      | inr high ↦
+          let there : o + j ≡ o + 8 + (j - 8) = omega arith in
+          let back : p + 8 + (j - 8) ≡ p + j = omega arith in
+          ap image there ∙ (numbers_show image other (o + 8) (p + 8) 8 small less second (j - 8) (omega arith) ∙ ap other back)
+    ]

@@ -111,8 +111,8 @@ backup_reads bytes z own small front back named none =
       first_usable = there 40 8 (omega arith) ∙ (eqb-true _ _ agrees.0 ∙ here 40 8 (omega arith));
       last_usable = there 48 8 (omega arith) ∙ (eqb-true _ _ agrees.1.0 ∙ here 48 8 (omega arith));
       disk = same_guid image image (own * z + 56) (1 * z + 56) (two_show image image (own * z + 56) (1 * z + 56) small small
-        (there 56 8 (omega arith) ∙ (eqb-true _ _ guid.0 ∙ here 56 8 (omega arith)))
-        (ap (λ (o : ℕ). number_at image o 8) back_eight ∙ (there 64 8 (omega arith) ∙ (eqb-true _ _ guid.1 ∙ (here 64 8 (omega arith) ∙ ap (λ (o : ℕ). number_at image o 8) front_eight)))));
+          (there 56 8 (omega arith) ∙ (eqb-true _ _ guid.0 ∙ here 56 8 (omega arith)))
+          (ap (λ (o : ℕ). number_at image o 8) back_eight ∙ (there 64 8 (omega arith) ∙ (eqb-true _ _ guid.1 ∙ (here 64 8 (omega arith) ∙ ap (λ (o : ℕ). number_at image o 8) front_eight)))));
     }
 
 -- the front half and its backup, where there is one
@@ -120,12 +120,14 @@ abbrev Reads : List ℕ → ℕ → Type 0
 Reads bytes z = (back : GptHeader) × ReadsGpt (image_of bytes) (length bytes) z (front_of bytes z) back (slot_in (entries_there bytes z 1))
 
 no_backup : (bytes : List ℕ) (z : ℕ) → AreSmall (image_of bytes) → IsHalf bytes z 1 false → (front_of bytes z).other ≡ 1 → Reads bytes z
-no_backup bytes z small front itself =
-    (front_of bytes z, record {
-      header = header_reads bytes z 1 false small front;
-      own = (reads_half bytes z 1 false small front).1;
-      backup = λ another. absurd (another itself);
-    })
+no_backup bytes z small front itself = (
+  front_of bytes z,
+  record {
+    header = header_reads bytes z 1 false small front;
+    own = (reads_half bytes z 1 false small front).1;
+    backup = λ another. absurd (another itself);
+  },
+)
 
 with_backup : (bytes : List ℕ) (z own : ℕ) → AreSmall (image_of bytes) → IsHalf bytes z 1 false → own ≡ (front_of bytes z).other →
     backup_at bytes z own (half (head_there bytes z 1) (entries_there bytes z 1)) ≡ Ok tt → Reads bytes z
@@ -134,12 +136,14 @@ with_backup bytes z own small front named e =
     let back = half_there bytes z own true p.0 p.1 in
     let passed = unless_ok (unlike z own (half (head_there bytes z 1) (entries_there bytes z 1)) p.0) tt tt p.2 in
     let none = subst (λ (b : Half). unlike z own (half (head_there bytes z 1) (entries_there bytes z 1)) b ≡ None) back.1 passed.0 in
-    let reads = backup_reads bytes z own small front back.0 named none in
-    (header_at (image_of bytes) (own * z), record {
-      header = header_reads bytes z 1 false small front;
-      own = (reads_half bytes z 1 false small front).1;
-      backup = λ another. reads;
-    })
+    let reads = backup_reads bytes z own small front back.0 named none in (
+      header_at (image_of bytes) (own * z),
+      record {
+        header = header_reads bytes z 1 false small front;
+        own = (reads_half bytes z 1 false small front).1;
+        backup = λ another. reads;
+      },
+    )
 
 backup_by : (bytes : List ℕ) (z own : ℕ) (itself : Bool) → AreSmall (image_of bytes) → IsHalf bytes z 1 false → own ≡ (front_of bytes z).other → (own == 1) ≡ itself →
     (if itself then Ok tt else backup_at bytes z own (half (head_there bytes z 1) (entries_there bytes z 1))) ≡ Ok tt → Reads bytes z
@@ -174,11 +178,14 @@ slots_read bytes (suc (suc (suc (suc k)))) h = absurd (omega arith)
 mbr_reads : (bytes : List ℕ) (spec : MbrSpec) → record_of (piece bytes 0 512) ≡ Some spec → (length spec.entries ≡ 4) × ReadsMbr (image_of bytes) spec
 mbr_reads bytes spec e =
     let both = recorded_by (is_marked (piece bytes 0 512)) (spec_at (image_of (piece bytes 0 512))) spec e in
-    subst (λ (s : MbrSpec). (length s.entries ≡ 4) × ReadsMbr (image_of bytes) s) both.1 (refl, record {
-      marked = marked_there bytes 0 both.0;
-      signature = sym (piece_number bytes 0 512 440 4 (omega arith));
-      slots = slots_read bytes;
-    })
+    subst (λ (s : MbrSpec). (length s.entries ≡ 4) × ReadsMbr (image_of bytes) s) both.1 (
+      refl,
+      record {
+        marked = marked_there bytes 0 both.0;
+        signature = sym (piece_number bytes 0 512 440 4 (omega arith));
+        slots = slots_read bytes;
+      },
+    )
 
 -- ---- what stands beside it
 

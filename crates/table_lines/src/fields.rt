@@ -103,7 +103,10 @@ fn name_len(units: &[u16; 36]) -> usize
     ensures exact { result ≡ before_zero units.now }
     ensures within { result ≤ 36 }
 {
-    units.iter().position(|unit| *unit == 0).unwrap_or(units.len())
+    units
+        .iter()
+        .position(|unit| *unit == 0)
+        .unwrap_or(units.len())
 }
 
 #[tactic(auto, using(crate::proofs::Units::unit_more))]

@@ -1,3 +1,5 @@
 -- lemmas
 pub mod ChainSteps
 pub mod Fronts
+pub mod HalfSteps
+pub mod TableForm

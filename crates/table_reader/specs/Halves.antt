@@ -1,6 +1,6 @@
 -- The two halves of a GUID partition table, each a header of 92 bytes and 16,384 bytes of entries (UEFI 2.10, section
 -- 5.3): the one in front, and the backup. Z is the sector size.
-use Rattle.std.specs.Prelude.{ℕ, ◌+◌, ◌*◌, ◌==◌, Bool, true, false, List, Option, None, Some, option_map, Result, Ok, Err, if◌then◌else◌}
+use Rattle.std.specs.Prelude.{◌≡◌, ℕ, ◌+◌, ◌*◌, ◌==◌, Bool, true, false, List, Option, None, Some, option_map, Result, Ok, Err, if◌then◌else◌}
 use Rattle.base_fields.specs.Crc.{crc32_of}
 use Rattle.base_fields.specs.Results.{◌>>=◌, when}
 use Rattle.table_reading.specs.Header.{fault_of, first_unmet, said}
