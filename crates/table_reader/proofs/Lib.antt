@@ -1,4 +1,5 @@
 -- lemmas
+pub mod BackupSteps
 pub mod ChainSteps
 pub mod Fronts
 pub mod HalfSteps

@@ -1,11 +1,14 @@
 -- A GUID partition table has as many entries as slot numbers, and at most 128.
-use Rattle.std.specs.Prelude.{◌≡◌, ℕ, zero, suc, ◌+◌, ◌≤◌, List, [], ◌∷◌, ◌++◌, length, map, Bool, true, false, if◌then◌else◌}
-use Rattle.std.proofs.Common.{refl, sym, subst, ◌∙◌, arith, length-append}
+use Rattle.std.specs.Prelude.{◌≡◌, ℕ, zero, suc, ◌+◌, ◌≤◌, List, [], ◌∷◌, ◌++◌, length, map, Bool, true, false, Result, Ok, Err, if◌then◌else◌}
+use Rattle.std.proofs.Common.{refl, ap, sym, subst, ◌∙◌, arith, length-append}
 use Rattle.std.proofs.lemmas.List.{length-map}
 use Rattle.gpt_table.specs.declared.entry.GptEntry.{GptEntry}
 use Rattle.gpt_reading.specs.Used.{is_used, slot_in, table_of, used_below}
 use Rattle.gpt_reading.specs.declared.tables.GptTable.{GptTable}
+use Rattle.base_fields.specs.Results.{◌>>=◌}
+use Rattle.table_reader.specs.Halves.{Half, backup_of, gpt_of, half_of}
 use Rattle.table_reader.specs.Tables.{IsGpt}
+use Rattle.table_reader.specs.declared.fault.TableFault.{TableFault}
 
 one_at_most : (b : Bool) (k : ℕ) → length (if b then k ∷ [] else []) ≤ 1
 one_at_most true k = omega arith
@@ -30,3 +33,7 @@ form_of head entries =
 
 pub table_form : (table : GptTable) (head entries : List ℕ) → table ≡ table_of head entries → IsGpt table
 table_form table head entries e = subst IsGpt (sym e) (form_of head entries)
+
+-- a table whose front half and backup are read
+pub gpt_all : (bytes : List ℕ) (z : ℕ) (front : Half) (table : GptTable) (done : Unit {0}) → half_of bytes z 1 false ≡ Ok front → backup_of bytes z front ≡ Ok done → table ≡ table_of front.head front.entries → gpt_of bytes z ≡ Ok table
+gpt_all bytes z front table done there backup e = rw (there, backup) (ap Ok (sym e))

@@ -68,7 +68,6 @@ fn read_backup<F: Files>(
     Ok(())
 }
 
-#[tactic(auto, using(crate::proofs::TableForm::table_form))]
 /// The table of a file that has `len` bytes, its front header being at LBA 1.
 pub fn read_gpt<F: Files>(
     alloc: Global,
