@@ -13,14 +13,14 @@ use Rattle.table_reader.specs.declared.fault.TableFault.TheVariants.{NoTable, Ba
 not_one : (n : ℕ) → (n ≡ 1 → ⊥) → (n == 1) ≡ false
 not_one n other = grind (arith, nat_tests)
 
-differs_so : (bytes : List ℕ) (z own at : ℕ) (front back : Half) → own ≡ said front.head 32 8 → (own ≡ 1 → ⊥) → half_of bytes z own true ≡ Ok back → Err (BadGpt at) ≡ unless (unlike z own front back) tt →
+differs_so : (bytes : List ℕ) (z own at : ℕ) (front back : Half) → own ≡ said front.head 32 8 → (own ≡ 1 → ⊥) → half_of bytes z own true ≡ Ok back → Err (BadGpt at) ≡ unless {A = Unit {0}} (unlike z own front back) tt →
     backup_of bytes z front ≡ Err (BadGpt at)
 differs_so bytes z own at front back named other there wrong =
     let test : (own == 1) ≡ false = not_one own other in
     let at_own : (if own == 1 then Ok tt else backup_at bytes z own front) ≡ Err (BadGpt at) = rw (test, there) (sym wrong) in
     subst (λ (n : ℕ). (if n == 1 then Ok tt else backup_at bytes z n front) ≡ Err (BadGpt at)) named at_own
 
-pub backup_refused : (bytes : List ℕ) (z own : ℕ) (front back : Half) (e : TableFault) → own ≡ said front.head 32 8 → (own ≡ 1 → ⊥) → half_of bytes z own true ≡ Ok back → Err e ≡ unless (unlike z own front back) tt → IsBadGpt e →
+pub backup_refused : (bytes : List ℕ) (z own : ℕ) (front back : Half) (e : TableFault) → own ≡ said front.head 32 8 → (own ≡ 1 → ⊥) → half_of bytes z own true ≡ Ok back → Err e ≡ unless {A = Unit {0}} (unlike z own front back) tt → IsBadGpt e →
     Refuses (backup_of bytes z front) e
 backup_refused bytes z own front back (BadGpt at) named other there wrong h = differs_so bytes z own at front back named other there wrong
 backup_refused bytes z own front back (BadSum at want got) named other there wrong h = absurd h

@@ -2,7 +2,6 @@
 use Rattle.std.specs.Prelude.{◌≡◌, ℕ, zero, suc, ◌+◌, ◌≤◌, List, [], ◌∷◌, ◌++◌, length, map, Bool, true, false, Result, Ok, Err, if◌then◌else◌}
 use Rattle.std.proofs.Common.{refl, ap, sym, subst, ◌∙◌, arith, length-append}
 use Rattle.std.proofs.lemmas.List.{length-map}
-use Rattle.gpt_table.specs.declared.entry.GptEntry.{GptEntry}
 use Rattle.gpt_reading.specs.Used.{is_used, slot_in, table_of, used_below}
 use Rattle.gpt_reading.specs.declared.tables.GptTable.{GptTable}
 use Rattle.base_fields.specs.Results.{◌>>=◌}
@@ -14,19 +13,19 @@ one_at_most : (b : Bool) (k : ℕ) → length (if b then k ∷ [] else []) ≤ 1
 one_at_most true k = omega arith
 one_at_most false k = omega arith
 
-used_few : (slot : ℕ → GptEntry) (n : ℕ) → length (used_below slot n) ≤ n
+used_few : (entries : List ℕ) (n : ℕ) → length (used_below (slot_in entries) n) ≤ n
 unfolding used_below
-used_few slot zero = omega arith
-used_few slot (suc k) =
-    let rest = used_few slot k in
-    let one = one_at_most (is_used (slot k)) k in
-    let both = length-append (used_below slot k) (if is_used (slot k) then k ∷ [] else []) in
+used_few entries zero = omega arith
+used_few entries (suc k) =
+    let rest = used_few entries k in
+    let one = one_at_most (is_used (slot_in entries k)) k in
+    let both = length-append (used_below (slot_in entries) k) (if is_used (slot_in entries k) then k ∷ [] else []) in
     omega (arith, rest, one, both)
 
 form_of : (head entries : List ℕ) → IsGpt (table_of head entries)
 form_of head entries =
     let used : List ℕ = used_below (slot_in entries) 128 in
-    let few = used_few (slot_in entries) 128 in
+    let few = used_few entries 128 in
     let listed = length-map used (slot_in entries) in
     let numbered = length-map used (λ (k : ℕ). k + 1) in
     record { numbered = numbered ∙ sym listed; few = omega (arith, few, listed) }
