@@ -1,7 +1,0 @@
--- lemmas
-pub mod Chains
-pub mod Found
-pub mod Halves
-pub mod Pieces
-pub mod Spans
-pub mod Tables

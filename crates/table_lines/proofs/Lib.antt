@@ -1,2 +1,0 @@
--- lemmas
-pub mod Units
