@@ -42,7 +42,7 @@ number_in_part : (xs : List ℕ) (o n k : ℕ) → 2 * k + 2 ≤ n → little_nu
 number_in_part xs o n k within =
     sym (number_listed (λ j. slice_index xs j) (o + 2 * k) (2 * k) 2 (take n (drop o xs))
     (λ j h. let there : o + 2 * k + j ≡ o + (2 * k + j) = omega arith in
-      ap (λ (p : ℕ). slice_index xs p) there ∙ sym (get_or-take n (drop o xs) (2 * k + j) 0 (omega arith) ∙ get_or-drop o xs (2 * k + j) 0)))
+    ap (λ (p : ℕ). slice_index xs p) there ∙ sym (get_or-take n (drop o xs) (2 * k + j) 0 (omega arith) ∙ get_or-drop o xs (2 * k + j) 0)))
 
 pub units_here : (xs us : List ℕ) (o : ℕ) → length us ≡ 36 → ((k : ℕ) → k < length us → slice_index us k ≡ little_number 2 (drop (2 * k) (take (o + 72 - o) (drop o xs)))) → us ≡ units_at (λ k. slice_index xs k) o 36
 units_here xs us o long same =

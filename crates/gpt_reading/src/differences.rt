@@ -28,5 +28,8 @@ pub fn first_unlike(bytes: &[u8], others: &[u8]) -> Option<usize>
     ensures exact { result ≡ differs_at bytes.now others.now }
     ensures within { IfSome result (λ at. at < length others.now) }
 {
-    bytes.iter().zip(others.iter()).position(|(byte, other)| *byte != *other)
+    bytes
+        .iter()
+        .zip(others.iter())
+        .position(|(byte, other)| *byte != *other)
 }

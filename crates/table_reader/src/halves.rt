@@ -110,6 +110,14 @@ pub fn read_half<F: Files>(
     ensures there { F.told → ReadsHalf (half_of (bytes_of (F.file files.old) name.now) sector own is_backup) room.new result }
 {
     let head = read_header(files, name, len, sector, own, is_backup)?;
-    read_entries(files, name, len, sector, own * u64::from(sector), &head, room)?;
+    read_entries(
+        files,
+        name,
+        len,
+        sector,
+        own * u64::from(sector),
+        &head,
+        room,
+    )?;
     Ok(head)
 }

@@ -132,11 +132,7 @@ fn with_gpt<F: Files>(
 /// Reads the tables of the file of that name: its master boot record (UEFI 2.10, section 5.2.1), the chain of its
 /// extended partition where there is no GUID partition table, and else that table with its backup (section 5.3). Its
 /// length is asked for once. Addresses by cylinder, and what stands behind the 92 bytes of a header, aren't looked at.
-pub fn read_tables<F: Files>(
-    alloc: Global,
-    files: &mut F,
-    name: &str,
-) -> Result<Tables, TableFault>
+pub fn read_tables<F: Files>(alloc: Global, files: &mut F, name: &str) -> Result<Tables, TableFault>
     ensures none_fell { NoneFell (F.counts files.old) (F.counts files.new) }
     ensures cause { IfErr result (HasCause (F.counts files.old) (F.counts files.new)) }
     ensures same_files { F.file files.new ≡ F.file files.old }
