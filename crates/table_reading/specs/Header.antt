@@ -1,6 +1,6 @@
 -- What is wrong with the 92 bytes of a header of a GUID partition table (UEFI 2.10, section 5.3.2), where it stands at a
 -- given LBA: its first field at fault, in the order of the table, and then its sum.
-use Rattle.std.specs.Prelude.{ℕ, ◌==◌, Bool, ◌||◌, not, List, [], ◌∷◌, ◌++◌, Option, None, Some, if◌then◌else◌, take, drop, replicate}
+use Rattle.std.specs.Prelude.{◌≢◌, ℕ, ◌<◌, ◌==◌, Bool, ◌||◌, not, List, [], ◌∷◌, ◌++◌, Option, None, Some, if◌then◌else◌, take, drop, replicate}
 use Rattle.base_fields.specs.Crc.{crc32_of}
 use Rattle.base_fields.specs.Fields.{number_at}
 use Rattle.table_reading.specs.Recognised.{image_of}
@@ -56,3 +56,8 @@ or_sum None head = bad_sum (said head 16 4) (sum_of head)
 -- what is wrong with a header that stands at the LBA `own`
 abbrev pub fault_of : ℕ → Bool → List ℕ → Option HeaderFault
 fault_of own is_backup head = or_sum (first_unmet (demands own is_backup head)) head
+
+-- what is wrong is a field of the header, or two sums that differ
+abbrev pub IsHeaderFault : HeaderFault → Type 0
+IsHeaderFault (fault.Field at) = at < 92
+IsHeaderFault (fault.Sum stated computed) = stated ≢ computed

@@ -1,6 +1,6 @@
-ghost use Rattle.std.specs.Prelude.{◌≡◌, ◌+◌, ◌≤◌, length};
+ghost use Rattle.std.specs.Prelude.{◌≡◌, ◌+◌, ◌<◌, ◌≤◌, IfSome, length};
 ghost use Rattle.base_fields.specs.Fields.{number_at};
-ghost use Rattle.table_reading.specs.Header.{demands, fault_of, first_unmet, sum_of};
+ghost use Rattle.table_reading.specs.Header.{IsHeaderFault, demands, fault_of, first_unmet, sum_of};
 ghost use Rattle.table_reading.specs.Recognised.{image_of};
 
 use crate::first_sector::read_number;
@@ -40,7 +40,8 @@ pub fn read_long(bytes: &[u8], at: usize) -> u64
 
 /// The offset of the first field at fault in a header that stands at the LBA `own`.
 fn field_at_fault(head: &[u8; 92], own: u64, is_backup: bool) -> Option<u64>
-    ensures { result ≡ first_unmet (demands own is_backup head.now) }
+    ensures exact { result ≡ first_unmet (demands own is_backup head.now) }
+    ensures within { IfSome result (λ at. at < 92) }
 {
     if read_long(head, 0) != SIGNATURE {
         return Some(0);
@@ -84,7 +85,8 @@ fn computed_sum(head: &[u8; 92]) -> u32
 /// What is wrong with a header that stands at the LBA `own`: its first field at fault, else its sum
 /// (UEFI 2.10, section 5.3.2). The sum of the entries isn't looked at.
 pub fn check_header(head: &[u8; 92], own: u64, is_backup: bool) -> Option<HeaderFault>
-    ensures { result ≡ fault_of own is_backup head.now }
+    ensures exact { result ≡ fault_of own is_backup head.now }
+    ensures fault { IfSome result IsHeaderFault }
 {
     if let Some(at) = field_at_fault(head, own, is_backup) {
         return Some(HeaderFault::Field { at });

@@ -7,7 +7,7 @@ mod header;
 mod record;
 mod sector;
 
-pub use first_sector::{extended_slot, kind_of, read_entry, read_mbr};
-pub use header::{HeaderFault, check_header};
+pub use first_sector::{extended_slot, kind_of, read_entry, read_mbr, read_number};
+pub use header::{HeaderFault, check_header, read_long};
 pub use record::{BootRecord, read_record};
 pub use sector::sector_size;

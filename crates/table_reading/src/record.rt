@@ -1,4 +1,4 @@
-ghost use Rattle.std.specs.Prelude.{◌≡◌, ◌^◌, ◌<◌};
+ghost use Rattle.std.specs.Prelude.{◌≡◌, ◌^◌, ◌<◌, IfSome};
 ghost use Rattle.table_reading.specs.Record.{boot_record_in, logical_in};
 
 use crate::first_sector::{is_marked, read_entry};
@@ -34,7 +34,8 @@ fn logical_entry(bytes: &[u8; 512], sector: u64) -> MbrEntry
 /// record is a bad one.
 pub fn read_record(bytes: &[u8; 512], start: u32, sector: u64) -> Option<BootRecord>
     requires { sector < 2 ^ 33 }
-    ensures { result ≡ boot_record_in start sector bytes.now }
+    ensures exact { result ≡ boot_record_in start sector bytes.now }
+    ensures near { IfSome result (λ boot. IfSome boot.next (λ next. next < 2 ^ 33)) }
 {
     if !is_marked(bytes) || read_entry(bytes, 446).is_empty() {
         return None;

@@ -1,0 +1,3 @@
+-- lemmas
+pub mod Bytes
+pub mod UsedSteps
