@@ -1,0 +1,5 @@
+-- lemmas
+pub mod MarkLemmas
+pub mod UnitLemmas
+pub mod PutLemmas
+pub mod EndLemmas
