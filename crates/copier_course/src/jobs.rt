@@ -1,6 +1,5 @@
 use base_fields::Name;
 use block_map::{BlockMap, Units};
-use crate::Mode;
 use journal_format::JobId;
 
 /// A copy: the file that is copied, the map of its image with its units, the journal's id, how the journal is opened,
