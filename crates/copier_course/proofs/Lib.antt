@@ -1,2 +1,3 @@
 -- lemmas
+pub mod CourseLemmas
 pub mod Positions

@@ -1,11 +1,11 @@
 -- The positions that a copier goes through, by what is recorded.
-use Rattle.std.proofs.Common.{◌≡◌, ℕ, ◌+◌, ◌<◌, ◌≤◌, List, [], ◌∷◌, length, get_or, inl, inr, sym, subst, ⊎_elim, ap, ◌∙◌, arith, length-append}
+use Rattle.std.proofs.Common.{◌≡◌, ◌⊎◌, ℕ, ◌+◌, ◌<◌, ◌≤◌, List, [], ◌∷◌, length, get_or, inl, inr, sym, subst, ⊎_elim, ap, ◌∙◌, arith, length-append}
 use Rattle.std.proofs.lemmas.Bool.{cases_eq, cases_lt}
 use Rattle.std.proofs.lemmas.Grind.{get_or_default_zero}
-use Rattle.std.proofs.lemmas.List.{length-map, take_all}
+use Rattle.std.proofs.lemmas.List.{get_or-set_other, get_or-set_same, take_all}
 use Rattle.std.proofs.lemmas.List.Elements.{All-contains, All-nil, All-push, Contains-append_left, Contains-append_right, Contains-get_or}
 use Rattle.std.proofs.lemmas.List.Quantifiers.{all_pairs_push}
-use Rattle.std.specs.Prelude.{All, AllPairs, Contains}
+use Rattle.std.specs.Prelude.{All, AllPairs, Contains, slice_index, slice_set}
 use Rattle.base_fields.specs.declared.spans.Span.{Span}
 use Rattle.block_map.proofs.Index.{first_rises}
 use Rattle.block_map.specs.Maps.{range_span}
@@ -163,3 +163,10 @@ position_so id m recorded checked now_recorded now_checked w p job units ranges 
           (it.0, it.1, λ is. it.2 ((units (get_or p.window i d) (below (get_or p.window i d) p.range it.0)).1 is));
       more = λ filled. let it = at.more filled in (it.0, it.1, it.2, λ is. it.3 ((units it.0 (below it.0 p.range it.1)).1 is));
     }
+
+-- ---- a mark that is set
+pub marked_set : (units : List ℕ) (k x : ℕ) → k < length units → (x ≡ k) ⊎ (slice_index units x ≡ 0x44) → slice_index (slice_set units k 0x44) x ≡ 0x44
+marked_set units k x room there = elim (cases_eq x k) [
+  | inl same ↦ subst (λ (n : ℕ). slice_index (slice_set units k 0x44) n ≡ 0x44) (sym same) (get_or-set_same units k 0x44 0 room)
+  | inr other ↦ ⊎_elim (λ same. absurd (other same)) (λ is. get_or-set_other units k x 0x44 0 other ∙ is) there
+]

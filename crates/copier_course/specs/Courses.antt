@@ -64,10 +64,10 @@ pub record IsAtFirst (job : CopyJob) (c : Course) : Type 0 where
   pub hash : Holds256 c.hash []
 
 -- these are the marks and the window that it keeps
-pub record HasMarks (units ranges : List ℕ) (window : ℕ) (c : Course) : Type 0 where
-  pub units : c.units ≡ units
-  pub ranges : c.ranges ≡ ranges
-  pub window : c.window ≡ window
+pub record HasMarks (of_units of_ranges : List ℕ) (most : ℕ) (c : Course) : Type 0 where
+  pub units : c.units ≡ of_units
+  pub ranges : c.ranges ≡ of_ranges
+  pub window : c.window ≡ most
 
 -- whatever a hasher holds, these bytes are put behind it
 abbrev pub Adds : List ℕ → Sha256 → Sha256 → Type 0

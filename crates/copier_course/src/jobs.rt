@@ -1,5 +1,6 @@
 use base_fields::Name;
 use block_map::{BlockMap, Units};
+use copy_opening::Mode;
 use journal_format::JobId;
 
 /// A copy: the file that is copied, the map of its image with its units, the journal's id, how the journal is opened,
@@ -29,11 +30,4 @@ pub enum Need {
     Done,
     /// Nothing: it has refused.
     Failed,
-}
-
-/// TEMPORARY
-#[derive(Clone, Copy, Debug, PartialEq, Eq)]
-pub enum Mode {
-    Fresh,
-    Again,
 }

@@ -7,5 +7,6 @@ mod jobs;
 mod window;
 
 pub use courses::Course;
-pub use jobs::{CopyJob, Mode, Need};
+pub use jobs::{CopyJob, Need};
 pub use window::Window;
+pub use copy_opening::Mode;

@@ -1,9 +1,9 @@
 -- A unit that is put: its write, and the closing of its window.
-use Rattle.std.proofs.Common.{◌≡◌, ℕ, ◌+◌, ◌<◌, ◌≤◌, List, [], ◌∷◌, ◌++◌, Contains, length, get_or, inl, inr, refl, sym, subst, ap, ⊎_elim, ◌∙◌, arith, length-append}
+use Rattle.std.proofs.Common.{◌≡◌, ℕ, ◌+◌, ◌^◌, ◌<◌, ◌≤◌, List, [], ◌∷◌, ◌++◌, Contains, length, get_or, inl, inr, refl, sym, subst, ap, ⊎_elim, ◌∙◌, arith, length-append}
 use Rattle.std.proofs.lemmas.Option.{get_or_from_slice_get}
 use Rattle.std.proofs.lemmas.List.Elements.{All-contains, Contains-append_left, Contains-append_right, Contains-get_or, Contains-push, Contains-push_cases}
 use Rattle.std.specs.List.Sorted.{IsStrictlyIncreasing}
-use Rattle.std.specs.Prelude.{All, IfSome, None, Option, Some, slice_index}
+use Rattle.std.specs.Prelude.{All, IfSome, None, Option, Some, slice_get, slice_index}
 use Rattle.base_fields.specs.Fields.{written}
 use Rattle.base_fields.specs.Numbers.{IsBetween}
 use Rattle.base_fields.specs.declared.spans.Span.{Span}
@@ -11,7 +11,7 @@ use Rattle.bench.specs.declared.Dev.TheVariants.{Journal, Target}
 use Rattle.bench.specs.Disk.{Disk, EachPair, IsPair, IsSettled, Keeps, TornAt, Touches}
 use Rattle.bench.proofs.DiskLemmas.{keeps_then, runs_then, torn_at_none, torn_at_so, torn_at_then, torn_within}
 use Rattle.block_map.specs.Maps.{part_of}
-use Rattle.block_map.specs.Units.{units_of}
+use Rattle.block_map.specs.Units.{Cut, units_in, units_of}
 use Rattle.block_map.specs.declared.maps.BlockMap.{BlockMap}
 use Rattle.block_map.specs.declared.maps.Range.{Range}
 use Rattle.block_map.proofs.Index.{one_range}
@@ -55,6 +55,35 @@ pub record IsPutting (job : CopyJob) (c : Course) (u : Span) (bytes : List ℕ) 
   pub whole : length bytes ≡ u.len
   pub end : u.at + u.len ≤ job.map.size
 
+-- by the units of the job
+pub number_inside : (job : CopyJob) (k : ℕ) → IsCopyJob job → k < job.id.units → k < length (units_in job.units)
+number_inside job k is below =
+    let same : length (units_in job.units) ≡ length (units_of job.map job.id.unit) = ap (λ (x : Cut). length (units_in x)) is.cut in
+    omega (arith, same, is.of_map.units)
+
+pub putting_of : (job : CopyJob) (c : Course) (u : Span) (bytes : List ℕ) → IsCopyJob job → IsCourse job c → IsInside job c → (¬ IsMarked c.units c.unit) →
+    slice_get (units_in job.units) c.unit ≡ Some u → u.at + u.len ≤ job.units.size →
+    ((v : Span) → IsUnitAt job.id job.map c.unit v → length bytes ≡ v.len) → IsPutting job c u bytes
+putting_of job c u bytes is course inside unmarked at end whole =
+    let unit : IsUnitAt job.id job.map c.unit u = subst (λ (x : Cut). slice_get (units_in x) c.unit ≡ Some u) is.cut at in
+    record {
+      job = is;
+      course = course;
+      inside = inside;
+      unmarked = unmarked;
+      is = unit;
+      whole = whole u unit;
+      end = subst (λ (x : Cut). u.at + u.len ≤ x.size) is.cut end;
+    }
+
+-- a unit inside a range is one of the job's
+pub inside_below : (job : CopyJob) (c : Course) → IsCopyJob job → IsCourse job c → IsInside job c → c.unit < job.id.units
+inside_below job c is course inside = in_range_below job.id job.map c.unit c.range is.of_map (record {
+  there = omega (arith, rows_length job.id job.map, is.of_map.ranges, inside.there);
+  from = course.position.low;
+  to = inside.below;
+})
+
 -- the list of one number has that one alone
 pub only : (n k : ℕ) → Contains (n ∷ []) k → n ≡ k
 only n k among = ⊎_elim (λ none. absurd (omega (arith, none.1))) (λ same. same) (Contains-push_cases [] n k among)
@@ -90,6 +119,9 @@ module _ (job : CopyJob) (c : Course) (u : Span) (bytes : List ℕ) (putting : I
     to = putting.inside.below;
   }
 
+  its_number : c.unit < job.id.units
+  its_number = in_range_below job.id job.map c.unit c.range putting.job.of_map mine
+
   -- the window with the unit: its numbers are of the range, and none is marked
   pub joined : All (λ k. IsInRange job.id job.map k c.range × (k < c.unit + 1) × (¬ IsMarked c.units k)) (joined_window (position_of c))
   joined = joined_open job.id job.map (IsMarked c.units) (IsMarked c.ranges) c.window (position_of c) putting.course.position putting.inside.there mine putting.unmarked
@@ -109,6 +141,38 @@ module _ (job : CopyJob) (c : Course) (u : Span) (bytes : List ℕ) (putting : I
 
   pub joined_rises : IsStrictlyIncreasing (joined_window (position_of c))
   joined_rises k below = joined_ascends job.id job.map (IsMarked c.units) (IsMarked c.ranges) c.window (position_of c) putting.course.position putting.inside.there k (k + 1) 0 (omega arith) below
+
+  -- ---- once the unit has joined the window
+  pub room_for_one : length c.pending < 16
+  room_for_one = omega (arith, putting.course.position.few, putting.course.window.1)
+
+  pub unit_small : c.unit < 2 ^ 32
+  unit_small = omega (arith, its_number, putting.job.limits.units)
+
+  module _ (d : Course) (takes : Takes bytes c d) where
+    pub taken_there : d.range < job.id.ranges
+    taken_there = subst (λ (r : ℕ). r < job.id.ranges) (sym (ap (λ (x : Course). x.range) takes.same)) putting.inside.there
+
+    pub taken_units : length d.units ≡ job.id.units
+    taken_units = ap (λ (x : Course). length x.units) takes.same ∙ putting.course.units
+
+    pub taken_high : d.unit ≤ first_in job (d.range + 1)
+    taken_high = subst (λ (r : ℕ). d.unit ≤ first_in job (r + 1)) (sym (ap (λ (x : Course). x.range) takes.same)) (omega (arith, ap (λ (x : Course). x.unit) takes.same, putting.inside.below))
+
+    pub pending_is : d.pending ≡ joined_window (position_of c)
+    pending_is = ap (λ (x : Course). x.pending) takes.same
+
+    pub pending_few : IsBetween 1 16 (length d.pending)
+    pending_few = subst (λ (ks : List ℕ). IsBetween 1 16 (length ks)) (sym pending_is) joined_few
+
+    pub pending_rises : IsStrictlyIncreasing d.pending
+    pending_rises = subst IsStrictlyIncreasing (sym pending_is) joined_rises
+
+    pub pending_inside : All (λ k. k < job.id.units) d.pending
+    pending_inside = subst (λ (ks : List ℕ). All (λ k. k < job.id.units) ks) (sym pending_is) joined_below
+
+    pub pending_marked : All (λ k. k < length d.units) d.pending
+    pending_marked i e below = subst (λ (n : ℕ). get_or d.pending i e < n) (sym taken_units) (pending_inside i e below)
 
   module _ (a : Disk) (fits : IsFitting job c a) where
     -- no image has it recorded, or its range checked
@@ -208,12 +272,12 @@ module _ (job : CopyJob) (c : Course) (u : Span) (bytes : List ℕ) (putting : I
         module _ (source : Option (List ℕ)) (start : Pair) (along : IsAlong job source start c a) where
           idle : IsIdle job.id job.map start c.unit
           idle = record {
-            there = in_range_below job.id job.map c.unit c.range putting.job.of_map mine;
-            unrecorded = λ is. unrecorded c.unit (in_range_below job.id job.map c.unit c.range putting.job.of_map mine) putting.unmarked (a.reads Journal) (along.kept c.unit (in_range_below job.id job.map c.unit c.range putting.job.of_map mine) is);
+            there = its_number;
+            unrecorded = λ is. putting.unmarked ((unit_is job.id (a.reads Journal) c fits.opened fits.marks c.unit its_number).1 (along.kept c.unit its_number is));
             unchecked = λ r other is.
                 let same : r ≡ c.range = one_range (rows_in job) c.unit r c.range other mine in
                 let here : IsChecked job.id c.range (a.reads Journal) = (along.behind c.range (omega arith) putting.inside.there).1 (subst (λ (n : ℕ). IsChecked job.id n start.journal) same is) in
-                unchecked c.unit mine (a.reads Journal) c.range mine here;
+                putting.course.position.present.unchecked putting.inside.there ((range_is job.id (a.reads Journal) c fits.opened fits.marks c.range putting.inside.there).1 here);
           }
 
           open_before : IsOpenAlong job.id job.map source start c.window (position_of c) (joined_window (position_of c)) (a.reads Target) a

@@ -46,9 +46,10 @@ pub fn put_unit<B: Bench>(
     let span = job.units.span(course.unit);
     write_unit(bench, span.at, bytes)?;
     course.take(bytes);
-    if course.is_full(job) {
-        close_window(bench, &job.id, course.pending.as_slice())?;
-        course.record_pending();
+    if !course.is_full(job) {
+        return Ok(());
     }
+    close_window(bench, &job.id, course.pending.as_slice())?;
+    course.record_pending();
     Ok(())
 }
