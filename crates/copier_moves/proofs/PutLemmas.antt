@@ -210,6 +210,30 @@ module _ (job : CopyJob) (c : Course) (u : Span) (bytes : List ℕ) (putting : I
       same_journal : b.reads Journal ≡ a.reads Journal
       same_journal = touches.changes.other_reads
 
+      -- ---- near to the start
+      module _ (source : Option (List ℕ)) (start : Pair) (along : IsAlong job source start c a) where
+        idle : IsIdle job.id job.map start c.unit
+        idle = record {
+          there = its_number;
+          unrecorded = λ is. putting.unmarked ((unit_is job.id (a.reads Journal) c fits.opened fits.marks c.unit its_number).1 (along.kept c.unit its_number is));
+          unchecked = λ r other is.
+              let same : r ≡ c.range = one_range (rows_in job) c.unit r c.range other mine in
+              let here : IsChecked job.id c.range (a.reads Journal) = (along.behind c.range (omega arith) putting.inside.there).1 (subst (λ (n : ℕ). IsChecked job.id n start.journal) same is) in
+              putting.course.position.present.unchecked putting.inside.there ((range_is job.id (a.reads Journal) c fits.opened fits.marks c.range putting.inside.there).1 here);
+        }
+
+        open_before : IsOpenAlong job.id job.map source start c.window (position_of c) (joined_window (position_of c)) (a.reads Target) a
+        open_before = window_takes_unit a job.id job.map source start c.window (position_of c) (record { along = along; images = fits.images; journal = fits.settled }) idle
+
+        pub write_is_near : (s : List ℕ) → StaysNear job.id job.map s start c.window a b
+        write_is_near s = writing_is_near touches job.id job.map source s start c.window (position_of c) (joined_window (position_of c)) (a.reads Target) c.unit putting.job.of_map open_before (Contains-push c.pending c.unit) its_bytes
+
+        pub open_after : IsOpenAlong job.id job.map source start c.window (position_of c) (joined_window (position_of c)) (a.reads Target) b
+        open_after = writing_stays_open touches job.id job.map source start c.window (position_of c) (joined_window (position_of c)) (a.reads Target) c.unit putting.job.of_map open_before (Contains-push c.pending c.unit) its_bytes
+
+        pub all_open : AreOpen job.id job.map start (position_of c) (joined_window (position_of c))
+        all_open k among = ⊎_elim (λ there. inl there) (λ same. inr (sym same, subst (λ (n : ℕ). IsIdle job.id job.map start n) same idle)) (Contains-push_cases c.pending c.unit k among)
+
       module _ (wrote : b.reads Target ≡ written (a.reads Target) u.at bytes) (d : Course) (takes : Takes bytes c d) where
         reads_bytes : part_of u (b.reads Target) ≡ bytes
         reads_bytes = ap (λ (l : List ℕ). part_of u l) wrote ∙ written_reads u (a.reads Target) bytes putting.whole (omega (arith, putting.end, fits.room))
@@ -268,33 +292,9 @@ module _ (job : CopyJob) (c : Course) (u : Span) (bytes : List ℕ) (putting : I
         taken_copied source copied sources =
             subst (λ (ks : List ℕ). AreCopied job.id job.map source ks (b.reads Target)) (sym (ap (λ (x : Course). x.pending) takes.same)) (joined_copied source copied sources)
 
-        -- ---- near to the start
-        module _ (source : Option (List ℕ)) (start : Pair) (along : IsAlong job source start c a) where
-          idle : IsIdle job.id job.map start c.unit
-          idle = record {
-            there = its_number;
-            unrecorded = λ is. putting.unmarked ((unit_is job.id (a.reads Journal) c fits.opened fits.marks c.unit its_number).1 (along.kept c.unit its_number is));
-            unchecked = λ r other is.
-                let same : r ≡ c.range = one_range (rows_in job) c.unit r c.range other mine in
-                let here : IsChecked job.id c.range (a.reads Journal) = (along.behind c.range (omega arith) putting.inside.there).1 (subst (λ (n : ℕ). IsChecked job.id n start.journal) same is) in
-                putting.course.position.present.unchecked putting.inside.there ((range_is job.id (a.reads Journal) c fits.opened fits.marks c.range putting.inside.there).1 here);
-          }
-
-          open_before : IsOpenAlong job.id job.map source start c.window (position_of c) (joined_window (position_of c)) (a.reads Target) a
-          open_before = window_takes_unit a job.id job.map source start c.window (position_of c) (record { along = along; images = fits.images; journal = fits.settled }) idle
-
-          pub write_is_near : (s : List ℕ) → StaysNear job.id job.map s start c.window a b
-          write_is_near s = writing_is_near touches job.id job.map source s start c.window (position_of c) (joined_window (position_of c)) (a.reads Target) c.unit putting.job.of_map open_before (Contains-push c.pending c.unit) its_bytes
-
-          pub open_after : IsOpenAlong job.id job.map source start c.window (position_of c) (joined_window (position_of c)) (a.reads Target) b
-          open_after = writing_stays_open touches job.id job.map source start c.window (position_of c) (joined_window (position_of c)) (a.reads Target) c.unit putting.job.of_map open_before (Contains-push c.pending c.unit) its_bytes
-
-          pub all_open : AreOpen job.id job.map start (position_of c) (joined_window (position_of c))
-          all_open k among = ⊎_elim (λ there. inl there) (λ same. inr (sym same, subst (λ (n : ℕ). IsIdle job.id job.map start n) same idle)) (Contains-push_cases c.pending c.unit k among)
-
-          pub is_written : AreSources job source c.unit bytes → IsWritten job.id job.map source start (position_of c) (a.reads Target) (b.reads Target)
-          is_written sources = writes_are_written a b job.id job.map source start (position_of c) u bytes (record {
-            idle = idle;
+        pub is_written : (source : Option (List ℕ)) (start : Pair) → IsAlong job source start c a → AreSources job source c.unit bytes → IsWritten job.id job.map source start (position_of c) (a.reads Target) (b.reads Target)
+        is_written source start along sources = writes_are_written a b job.id job.map source start (position_of c) u bytes (record {
+            idle = idle source start along;
             mine = mine;
             is = putting.is;
             whole = putting.whole;
