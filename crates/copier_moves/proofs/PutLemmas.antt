@@ -174,6 +174,74 @@ module _ (job : CopyJob) (c : Course) (u : Span) (bytes : List ℕ) (putting : I
     pub pending_marked : All (λ k. k < length d.units) d.pending
     pending_marked i e below = subst (λ (n : ℕ). get_or d.pending i e < n) (sym taken_units) (pending_inside i e below)
 
+    at_taken : position_of d ≡ taken (position_of c)
+    at_taken = ap (λ (x : Course). position_of x) takes.same
+
+    units_before : d.units ≡ c.units
+    units_before = ap (λ (x : Course). x.units) takes.same
+
+    -- the window stays open
+    module _ (on : GoesOn job d) where
+      room_left : length c.pending + 1 < c.window
+      room_left = omega (arith, on.few, ap (λ (x : Course). length x.pending) takes.same, ap (λ (x : Course). x.window) takes.same, length-append c.pending (c.unit ∷ []))
+
+      next_mine : IsInRange job.id job.map on.next c.range
+      next_mine = record {
+        there = mine.there;
+        from = omega (arith, mine.from, on.behind, ap (λ (x : Course). x.unit) takes.same);
+        to = subst (λ (r : ℕ). on.next < first_in job (r + 1)) (ap (λ (x : Course). x.range) takes.same) on.within;
+      }
+
+      next_unmarked : ¬ IsMarked c.units on.next
+      next_unmarked = subst (λ (l : List ℕ). ¬ IsMarked l on.next) (ap (λ (x : Course). x.units) takes.same) on.unmarked
+
+      taken_at : IsPosition job.id job.map (IsMarked c.units) (IsMarked c.ranges) c.window (taken (position_of c))
+      taken_at = taken_position job.id job.map (IsMarked c.units) (IsMarked c.ranges) c.window (position_of c) putting.course.position putting.inside.there mine putting.unmarked room_left on.next next_mine (omega (arith, on.behind, ap (λ (x : Course). x.unit) takes.same)) next_unmarked
+
+      pub taken_course : IsCourse job d
+      taken_course = subst (λ (x : Course). IsCourse job x) (sym takes.same) (record {
+        units = putting.course.units;
+        ranges = putting.course.ranges;
+        window = putting.course.window;
+        position = taken_at;
+      })
+
+    -- the window is recorded
+    module _ (f : Course) (records : Records d f) where
+      at_closed : position_of f ≡ closed (position_of c)
+      at_closed =
+          ap (λ (x : Course). position_of x) records.same
+          ∙ ap (λ (x : Course). position_of (record x { pending = [] })) takes.same
+
+      still_marked : (k : ℕ) → IsMarked c.units k → IsMarked f.units k
+      still_marked k is = elim (contains_or_not d.pending k) [
+        | inl among ↦ records.units.marked k among
+        | inr out ↦ records.units.others k out ∙ ap (λ (l : List ℕ). slice_index l k) units_before ∙ is
+      ]
+
+      closed_at : IsPosition job.id job.map (IsMarked f.units) (IsMarked c.ranges) c.window (closed (position_of c))
+      closed_at = closed_position job.id job.map (IsMarked c.units) (IsMarked c.ranges) c.window (position_of c) putting.course.position putting.inside.there mine (IsMarked f.units) still_marked (λ k among. records.units.marked k (subst (λ (ks : List ℕ). Contains ks k) (sym pending_is) among))
+
+      same_ranges : f.ranges ≡ c.ranges
+      same_ranges = ap (λ (x : Course). x.ranges) records.same ∙ ap (λ (x : Course). x.ranges) takes.same
+
+      same_window : f.window ≡ c.window
+      same_window = ap (λ (x : Course). x.window) records.same ∙ ap (λ (x : Course). x.window) takes.same
+
+      pub recorded_course : IsCourse job f
+      recorded_course = record {
+        units = records.units.size ∙ ap (λ (l : List ℕ). length l) units_before ∙ putting.course.units;
+        ranges = ap (λ (l : List ℕ). length l) same_ranges ∙ putting.course.ranges;
+        window = subst IsWindow (sym same_window) putting.course.window;
+        position =
+            subst (λ (p : Position). IsPosition job.id job.map (IsMarked f.units) (IsMarked f.ranges) f.window p) (sym at_closed)
+            (subst (λ (w : ℕ). IsPosition job.id job.map (IsMarked f.units) (IsMarked f.ranges) w (closed (position_of c))) (sym same_window)
+            (subst (λ (l : List ℕ). IsPosition job.id job.map (IsMarked f.units) (IsMarked l) c.window (closed (position_of c))) (sym same_ranges) closed_at));
+      }
+
+      none_pending : f.pending ≡ []
+      none_pending = ap (λ (x : Course). x.pending) records.same
+
   module _ (a : Disk) (fits : IsFitting job c a) where
     -- no image has it recorded, or its range checked
     pub unchecked : (k : ℕ) → IsInRange job.id job.map k c.range → (j : List ℕ) → a.leaves Journal j → (r : ℕ) → IsInRange job.id job.map k r → ¬ IsChecked job.id r j
@@ -238,9 +306,6 @@ module _ (job : CopyJob) (c : Course) (u : Span) (bytes : List ℕ) (putting : I
         reads_bytes : part_of u (b.reads Target) ≡ bytes
         reads_bytes = ap (λ (l : List ℕ). part_of u l) wrote ∙ written_reads u (a.reads Target) bytes putting.whole (omega (arith, putting.end, fits.room))
 
-        pub at_taken : position_of d ≡ taken (position_of c)
-        at_taken = ap (λ (x : Course). position_of x) takes.same
-
         -- ---- it fits again
         images_torn : (image : List ℕ) → b.leaves Target image → UnitsTorn job.id job.map (joined_window (position_of c)) (b.reads Target) image
         images_torn image leaves =
@@ -304,38 +369,14 @@ module _ (job : CopyJob) (c : Course) (u : Span) (bytes : List ℕ) (putting : I
 
         -- ---- the window stays open
         module _ (on : GoesOn job d) where
-          room_left : length c.pending + 1 < c.window
-          room_left = omega (arith, on.few, ap (λ (x : Course). length x.pending) takes.same, ap (λ (x : Course). x.window) takes.same, length-append c.pending (c.unit ∷ []))
-
-          next_mine : IsInRange job.id job.map on.next c.range
-          next_mine = record {
-            there = mine.there;
-            from = omega (arith, mine.from, on.behind, ap (λ (x : Course). x.unit) takes.same);
-            to = subst (λ (r : ℕ). on.next < first_in job (r + 1)) (ap (λ (x : Course). x.range) takes.same) on.within;
-          }
-
-          next_unmarked : ¬ IsMarked c.units on.next
-          next_unmarked = subst (λ (l : List ℕ). ¬ IsMarked l on.next) (ap (λ (x : Course). x.units) takes.same) on.unmarked
-
-          taken_at : IsPosition job.id job.map (IsMarked c.units) (IsMarked c.ranges) c.window (taken (position_of c))
-          taken_at = taken_position job.id job.map (IsMarked c.units) (IsMarked c.ranges) c.window (position_of c) putting.course.position putting.inside.there mine putting.unmarked room_left on.next next_mine (omega (arith, on.behind, ap (λ (x : Course). x.unit) takes.same)) next_unmarked
-
-          pub taken_course : IsCourse job d
-          taken_course = subst (λ (x : Course). IsCourse job x) (sym takes.same) (record {
-            units = putting.course.units;
-            ranges = putting.course.ranges;
-            window = putting.course.window;
-            position = taken_at;
-          })
-
           pub taken_along : PuttingIsAlong job bytes c d a b
           taken_along source start along sources =
               let at_c : Along job.id job.map source start c.window (taken (position_of c)) (b.reads Target) (a.reads Journal) =
-              taken_is_along job.id job.map source start c.window (position_of c) (a.reads Target) (b.reads Target) (a.reads Journal) putting.job.of_map along room_left (is_written source start along sources) in
+              taken_is_along job.id job.map source start c.window (position_of c) (a.reads Target) (b.reads Target) (a.reads Journal) putting.job.of_map along (room_left d takes on) (is_written source start along sources) in
               let at_w : Along job.id job.map source start d.window (taken (position_of c)) (b.reads Target) (a.reads Journal) =
               subst (λ (w : ℕ). Along job.id job.map source start w (taken (position_of c)) (b.reads Target) (a.reads Journal)) (sym (ap (λ (x : Course). x.window) takes.same)) at_c in
               let at_d : Along job.id job.map source start d.window (position_of d) (b.reads Target) (a.reads Journal) =
-              subst (λ (p : Position). Along job.id job.map source start d.window p (b.reads Target) (a.reads Journal)) (sym at_taken) at_w in
+              subst (λ (p : Position). Along job.id job.map source start d.window p (b.reads Target) (a.reads Journal)) (sym (at_taken d takes)) at_w in
               subst (λ (j : List ℕ). Along job.id job.map source start d.window (position_of d) (b.reads Target) j) (sym same_journal) at_d
 
         -- ---- the window is closed
@@ -356,19 +397,11 @@ module _ (job : CopyJob) (c : Course) (u : Span) (bytes : List ℕ) (putting : I
               closing_is_near closes job.map source s start c.window (position_of c) (joined_window (position_of c)) (a.reads Target) putting.job.of_map (open_after source start along) all
 
           module _ (f : Course) (records : Records d f) (marked : All (λ k. IsMarked (e.reads Journal) (unit_mark k)) d.pending) (target : IsSettled e Target) (journal : IsSettled e Journal) (still : IsOpenedFor job.id (e.reads Journal)) where
-            at_closed : position_of f ≡ closed (position_of c)
-            at_closed =
-                ap (λ (x : Course). position_of x) records.same
-                ∙ ap (λ (x : Course). position_of (record x { pending = [] })) takes.same
-
             marked_at : (k : ℕ) → Contains d.pending k → IsMarked (e.reads Journal) (unit_mark k)
             marked_at k among = All-contains (λ x. IsMarked (e.reads Journal) (unit_mark x)) d.pending k marked among
 
             pending_below : (k : ℕ) → Contains d.pending k → k < job.id.units
             pending_below k among = in_range_below job.id job.map k c.range putting.job.of_map (joined_at k (subst (λ (ks : List ℕ). Contains ks k) joined_is among)).0
-
-            units_before : d.units ≡ c.units
-            units_before = ap (λ (x : Course). x.units) takes.same
 
             pub recorded_fits : IsFitting job f e
             recorded_fits = record {
@@ -376,7 +409,7 @@ module _ (job : CopyJob) (c : Course) (u : Span) (bytes : List ℕ) (putting : I
               images = λ image leaves. subst (λ (x : List ℕ). UnitsTorn job.id job.map f.pending (e.reads Target) x) (sym (target image leaves)) (torn_at_none _ (e.reads Target));
               settled = journal;
               opened = still;
-              marks = marks_recorded job.id (b.reads Journal) (e.reads Journal) d.pending d f still taken_fits.marks (ap (λ (l : List ℕ). length l) units_before ∙ putting.course.units) closes.journal marked_at pending_below
+              marks = marks_recorded job.id (b.reads Journal) (e.reads Journal) d.pending d f still taken_fits.marks (ap (λ (l : List ℕ). length l) (units_before d takes) ∙ putting.course.units) closes.journal marked_at pending_below
                   records.units (ap (λ (x : Course). x.ranges) records.same) (ap (λ (x : Course). x.window) records.same) taken_fits.opened.held;
               hashed = hashed_as job f (e.reads Target) d.range d.unit (ap (λ (x : Course). x.range) records.same) (ap (λ (x : Course). x.unit) records.same) (λ range want at stated.
                   let held : Holds256 d.hash (bytes_before job d.range d.unit (b.reads Target)) = taken_fits.hashed range want at stated in
@@ -384,38 +417,9 @@ module _ (job : CopyJob) (c : Course) (u : Span) (bytes : List ℕ) (putting : I
                   subst (λ (l : List ℕ). Holds256 f.hash (bytes_before job d.range d.unit l)) (sym closes.target) same);
             }
 
-            still_marked : (k : ℕ) → IsMarked c.units k → IsMarked f.units k
-            still_marked k is = elim (contains_or_not d.pending k) [
-              | inl among ↦ records.units.marked k among
-              | inr out ↦ records.units.others k out ∙ ap (λ (l : List ℕ). slice_index l k) units_before ∙ is
-            ]
-
-            closed_at : IsPosition job.id job.map (IsMarked f.units) (IsMarked c.ranges) c.window (closed (position_of c))
-            closed_at = closed_position job.id job.map (IsMarked c.units) (IsMarked c.ranges) c.window (position_of c) putting.course.position putting.inside.there mine (IsMarked f.units) still_marked (λ k among. records.units.marked k (subst (λ (ks : List ℕ). Contains ks k) (sym joined_is) among))
-
-            same_ranges : f.ranges ≡ c.ranges
-            same_ranges = ap (λ (x : Course). x.ranges) records.same ∙ ap (λ (x : Course). x.ranges) takes.same
-
-            same_window : f.window ≡ c.window
-            same_window = ap (λ (x : Course). x.window) records.same ∙ ap (λ (x : Course). x.window) takes.same
-
-            pub recorded_course : IsCourse job f
-            recorded_course = record {
-              units = records.units.size ∙ ap (λ (l : List ℕ). length l) units_before ∙ putting.course.units;
-              ranges = ap (λ (l : List ℕ). length l) same_ranges ∙ putting.course.ranges;
-              window = subst IsWindow (sym same_window) putting.course.window;
-              position =
-                  subst (λ (p : Position). IsPosition job.id job.map (IsMarked f.units) (IsMarked f.ranges) f.window p) (sym at_closed)
-                  (subst (λ (w : ℕ). IsPosition job.id job.map (IsMarked f.units) (IsMarked f.ranges) w (closed (position_of c))) (sym same_window)
-                  (subst (λ (l : List ℕ). IsPosition job.id job.map (IsMarked f.units) (IsMarked l) c.window (closed (position_of c))) (sym same_ranges) closed_at));
-            }
-
-            none_pending : f.pending ≡ []
-            none_pending = ap (λ (x : Course). x.pending) records.same
-
             pub recorded_copied : PuttingKeepsCopied job bytes c f a e
             recorded_copied source copied sources =
-                subst (λ (ks : List ℕ). AreCopied job.id job.map source ks (e.reads Target)) (sym none_pending) (none_copied source)
+                subst (λ (ks : List ℕ). AreCopied job.id job.map source ks (e.reads Target)) (sym (none_pending d takes f records)) (none_copied source)
               where
                 none_copied : (source : Option (List ℕ)) → AreCopied job.id job.map source [] (e.reads Target)
                 none_copied None = tt
@@ -431,5 +435,5 @@ module _ (job : CopyJob) (c : Course) (u : Span) (bytes : List ℕ) (putting : I
                 let at_e : Along job.id job.map source start c.window (closed (position_of c)) (e.reads Target) (e.reads Journal) =
                 subst (λ (t : List ℕ). Along job.id job.map source start c.window (closed (position_of c)) t (e.reads Journal)) (sym closes.target) at_b in
                 let at_w : Along job.id job.map source start f.window (closed (position_of c)) (e.reads Target) (e.reads Journal) =
-                subst (λ (w : ℕ). Along job.id job.map source start w (closed (position_of c)) (e.reads Target) (e.reads Journal)) (sym same_window) at_e in
-                subst (λ (p : Position). Along job.id job.map source start f.window p (e.reads Target) (e.reads Journal)) (sym at_closed) at_w
+                subst (λ (w : ℕ). Along job.id job.map source start w (closed (position_of c)) (e.reads Target) (e.reads Journal)) (sym (same_window d takes f records)) at_e in
+                subst (λ (p : Position). Along job.id job.map source start f.window p (e.reads Target) (e.reads Journal)) (sym (at_closed d takes f records)) at_w

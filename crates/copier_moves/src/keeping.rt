@@ -23,6 +23,7 @@ use sha2::{Digest, Sha256};
 
 /// Passes the present unit, which is recorded. Where its range has a digest, it is read from the target into the
 /// buffer and hashed. Nothing is written.
+#[tactic(none)]
 pub fn keep_unit<B: Bench>(
     bench: &mut B,
     job: &CopyJob,
@@ -88,6 +89,7 @@ fn hash_unit<B: Bench>(
 /// Ends the present range, each unit of which is passed: where it has a digest and the target's bytes have another,
 /// all records of its units are taken back and it refuses; else the range is recorded. After a fault the course is of
 /// no more use.
+#[tactic(none)]
 pub fn end_range<B: Bench>(
     bench: &mut B,
     job: &CopyJob,
@@ -112,7 +114,9 @@ pub fn end_range<B: Bench>(
     ensures same_names { SameNames (B.meter bench.old) (B.meter bench.new) }
 {
     let range = course.range;
-    if let Some((want, got)) = difference(job, course) {
+    if let Some(both) = difference(job, course) {
+        let want = both.0;
+        let got = both.1;
         let first = job.units.first_of(range);
         clear_units(bench, &job.id, first, job.units.count_of(range))?;
         return Err(EndFault::RangeDiffers { range, want, got });

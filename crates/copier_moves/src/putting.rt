@@ -17,6 +17,7 @@ use copy_stages::{DeviceFault, close_window, write_unit};
 /// Writes the present unit, which isn't recorded, with these bytes, of which there are as many as it has, and passes
 /// it. It joins the window; where that is full then, or the range has no further unit that isn't recorded, the
 /// window's units are recorded. After a fault the course is of no more use.
+
 pub fn put_unit<B: Bench>(
     bench: &mut B,
     job: &CopyJob,
