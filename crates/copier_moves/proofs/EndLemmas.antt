@@ -71,9 +71,9 @@ module _ (job : CopyJob) (c d : Course) (is : IsCopyJob job) (course : IsCourse 
     same_reads : (dev : Dev) → b.reads dev ≡ a.reads dev
     same_reads dev = ap (λ (f : Dev → List ℕ). f dev) looked.reads
 
-    pub kept_fits : ((range : Range) (want : List ℕ) (u : Span) → IsRangeAt job.map c.range range → range.digest ≡ Some want → IsUnitAt job.id job.map c.unit u → Adds (part_of u (a.reads Target)) c.hash d.hash) →
-        (u : Span) → IsUnitAt job.id job.map c.unit u → IsFitting job d b
-    kept_fits adds u at = record {
+    pub kept_fits : ((range : Range) (want : List ℕ) → IsRangeAt job.map c.range range → range.digest ≡ Some want →
+        (u : Span) × IsUnitAt job.id job.map c.unit u × Adds (part_of u (a.reads Target)) c.hash d.hash) → IsFitting job d b
+    kept_fits adds = record {
       room = omega (arith, fits.room, ap (λ (l : List ℕ). length l) (same_reads Target));
       images = λ image leaves.
           subst (λ (ks : List ℕ). UnitsTorn job.id job.map ks (b.reads Target) image) (sym (ap (λ (x : Course). x.pending) kept))
@@ -86,8 +86,9 @@ module _ (job : CopyJob) (c d : Course) (is : IsCopyJob job) (course : IsCourse 
         window = ap (λ (x : Course). x.window) kept ∙ fits.marks.window;
       });
       hashed = hashed_as job d (b.reads Target) c.range (c.unit + 1) (ap (λ (x : Course). x.range) kept) (ap (λ (x : Course). x.unit) kept) (λ range want there stated.
+          let (u, at, added) = adds range want there stated in
           let next : bytes_before job c.range (c.unit + 1) (a.reads Target) ≡ bytes_before job c.range c.unit (a.reads Target) ++ part_of u (a.reads Target) = before_next job c.range c.unit u (a.reads Target) its at in
-          let held : Holds256 d.hash (bytes_before job c.range c.unit (a.reads Target) ++ part_of u (a.reads Target)) = adds range want u there stated at _ (fits.hashed range want there stated) in
+          let held : Holds256 d.hash (bytes_before job c.range c.unit (a.reads Target) ++ part_of u (a.reads Target)) = added _ (fits.hashed range want there stated) in
           let now : Holds256 d.hash (bytes_before job c.range (c.unit + 1) (a.reads Target)) = subst (λ (l : List ℕ). Holds256 d.hash l) (sym next) held in
           subst (λ (t : List ℕ). Holds256 d.hash (bytes_before job c.range (c.unit + 1) t)) (sym (same_reads Target)) now);
     }
