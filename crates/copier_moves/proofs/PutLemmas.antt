@@ -47,7 +47,7 @@ use Rattle.copier_moves.proofs.UnitLemmas.{before_kept, before_next, written_rea
 
 -- a unit is to be put: the present one, which isn't recorded, and these are its bytes
 pub record IsPutting (job : CopyJob) (c : Course) (u : Span) (bytes : List ℕ) : Type 0 where
-  pub job : IsCopyJob job
+  pub of_job : IsCopyJob job
   pub course : IsCourse job c
   pub inside : IsInside job c
   pub unmarked : ¬ IsMarked c.units c.unit
@@ -67,7 +67,7 @@ pub putting_of : (job : CopyJob) (c : Course) (u : Span) (bytes : List ℕ) → 
 putting_of job c u bytes is course inside unmarked at end whole =
     let unit : IsUnitAt job.id job.map c.unit u = subst (λ (x : Cut). slice_get (units_in x) c.unit ≡ Some u) is.cut at in
     record {
-      job = is;
+      of_job = is;
       course = course;
       inside = inside;
       unmarked = unmarked;
@@ -96,8 +96,8 @@ torn_each {places} {t} {a} {b} first second = record {
 }
 
 -- the units of one list are among those of another
-wider : {id : JobId} {m : BlockMap} {units more t new : List ℕ} → UnitsTorn id m units t new → ((k : ℕ) → Contains units k → Contains more k) → UnitsTorn id m more t new
-wider {id} {m} {units} {more} {t} {new} torn each = torn_at_so torn (λ o byte. (byte.0, byte.1, each byte.0 byte.2, byte.3, byte.4))
+wider : (id : JobId) (m : BlockMap) (units more t new : List ℕ) → UnitsTorn id m units t new → ((k : ℕ) → Contains units k → Contains more k) → UnitsTorn id m more t new
+wider id m units more t new torn each = torn_at_so torn (λ o byte. (byte.0, byte.1, each byte.0 byte.2, byte.3, byte.4))
 
 -- a number has one unit
 one_span : (id : JobId) (m : BlockMap) (k : ℕ) (u v : Span) → IsUnitAt id m k u → IsUnitAt id m k v → u ≡ v
@@ -114,13 +114,13 @@ hashed_as job d t r k same_range same_unit holds range want at stated =
 module _ (job : CopyJob) (c : Course) (u : Span) (bytes : List ℕ) (putting : IsPutting job c u bytes) where
   pub mine : IsInRange job.id job.map c.unit c.range
   mine = record {
-    there = omega (arith, rows_length job.id job.map, putting.job.of_map.ranges, putting.inside.there);
+    there = omega (arith, rows_length job.id job.map, putting.of_job.of_map.ranges, putting.inside.there);
     from = putting.course.position.low;
     to = putting.inside.below;
   }
 
   its_number : c.unit < job.id.units
-  its_number = in_range_below job.id job.map c.unit c.range putting.job.of_map mine
+  its_number = in_range_below job.id job.map c.unit c.range putting.of_job.of_map mine
 
   -- the window with the unit: its numbers are of the range, and none is marked
   pub joined : All (λ k. IsInRange job.id job.map k c.range × (k < c.unit + 1) × (¬ IsMarked c.units k)) (joined_window (position_of c))
@@ -130,7 +130,7 @@ module _ (job : CopyJob) (c : Course) (u : Span) (bytes : List ℕ) (putting : I
   joined_at k among = All-contains (λ x. IsInRange job.id job.map x c.range × (x < c.unit + 1) × (¬ IsMarked c.units x)) (joined_window (position_of c)) k joined among
 
   pub joined_below : All (λ k. k < job.id.units) (joined_window (position_of c))
-  joined_below i d below = in_range_below job.id job.map _ c.range putting.job.of_map (joined i d below).0
+  joined_below i d below = in_range_below job.id job.map _ c.range putting.of_job.of_map (joined i d below).0
 
   -- a unit of the window stands before the present one
   is_pending : (k : ℕ) → Contains c.pending k → IsInRange job.id job.map k c.range × (k < c.unit) × (¬ IsMarked c.units k)
@@ -147,7 +147,7 @@ module _ (job : CopyJob) (c : Course) (u : Span) (bytes : List ℕ) (putting : I
   room_for_one = omega (arith, putting.course.position.few, putting.course.window.1)
 
   pub unit_small : c.unit < 2 ^ 32
-  unit_small = omega (arith, its_number, putting.job.limits.units)
+  unit_small = omega (arith, its_number, putting.of_job.limits.units)
 
   module _ (d : Course) (takes : Takes bytes c d) where
     pub taken_there : d.range < job.id.ranges
@@ -256,7 +256,7 @@ module _ (job : CopyJob) (c : Course) (u : Span) (bytes : List ℕ) (putting : I
 
     may_write : EachPair a (MayWrite job.id job.map c.unit)
     may_write t j pair = record {
-      unrecorded = λ k among. let same : c.unit ≡ k = only c.unit k among in subst (λ (n : ℕ). ¬ IsRecorded job.id n j) same (unrecorded c.unit (in_range_below job.id job.map c.unit c.range putting.job.of_map mine) putting.unmarked j pair.1);
+      unrecorded = λ k among. let same : c.unit ≡ k = only c.unit k among in subst (λ (n : ℕ). ¬ IsRecorded job.id n j) same (unrecorded c.unit (in_range_below job.id job.map c.unit c.range putting.of_job.of_map mine) putting.unmarked j pair.1);
       unchecked = λ k among. let same : c.unit ≡ k = only c.unit k among in subst (λ (n : ℕ). (r : ℕ) → IsInRange job.id job.map n r → ¬ IsChecked job.id r j) same (unchecked c.unit mine j pair.1);
     }
 
@@ -266,7 +266,7 @@ module _ (job : CopyJob) (c : Course) (u : Span) (bytes : List ℕ) (putting : I
     -- ---- after the write
     module _ (b : Disk) (touches : Touches Target u.at (length bytes) a b) where
       pub write_keeps_since : WritingKeepsSince u.at (length bytes) a b → (source : Option (List ℕ)) (before : List ℕ) → Keeps (Since job.id job.map source before) a b
-      write_keeps_since keeps source before = keeps job.id job.map source before c.unit putting.job.of_map its_bytes may_write
+      write_keeps_since keeps source before = keeps job.id job.map source before c.unit putting.of_job.of_map its_bytes may_write
 
       pub unit_torn : UnitsTorn job.id job.map (c.unit ∷ []) (a.reads Target) (b.reads Target)
       unit_torn = one_unit_torn job.id job.map (c.unit ∷ []) c.unit _ _ (0, omega arith, refl) (record {
@@ -294,10 +294,10 @@ module _ (job : CopyJob) (c : Course) (u : Span) (bytes : List ℕ) (putting : I
         open_before = window_takes_unit a job.id job.map source start c.window (position_of c) (record { along = along; images = fits.images; journal = fits.settled }) idle
 
         pub write_is_near : (s : List ℕ) → StaysNear job.id job.map s start c.window a b
-        write_is_near s = writing_is_near touches job.id job.map source s start c.window (position_of c) (joined_window (position_of c)) (a.reads Target) c.unit putting.job.of_map open_before (Contains-push c.pending c.unit) its_bytes
+        write_is_near s = writing_is_near touches job.id job.map source s start c.window (position_of c) (joined_window (position_of c)) (a.reads Target) c.unit putting.of_job.of_map open_before (Contains-push c.pending c.unit) its_bytes
 
         pub open_after : IsOpenAlong job.id job.map source start c.window (position_of c) (joined_window (position_of c)) (a.reads Target) b
-        open_after = writing_stays_open touches job.id job.map source start c.window (position_of c) (joined_window (position_of c)) (a.reads Target) c.unit putting.job.of_map open_before (Contains-push c.pending c.unit) its_bytes
+        open_after = writing_stays_open touches job.id job.map source start c.window (position_of c) (joined_window (position_of c)) (a.reads Target) c.unit putting.of_job.of_map open_before (Contains-push c.pending c.unit) its_bytes
 
         pub all_open : AreOpen job.id job.map start (position_of c) (joined_window (position_of c))
         all_open k among = ⊎_elim (λ there. inl there) (λ same. inr (sym same, subst (λ (n : ℕ). IsIdle job.id job.map start n) same idle)) (Contains-push_cases c.pending c.unit k among)
@@ -311,8 +311,8 @@ module _ (job : CopyJob) (c : Course) (u : Span) (bytes : List ℕ) (putting : I
         images_torn image leaves =
             let (old, (was, torn)) = touches.changes.images image leaves in
             let unit : UnitsTorn job.id job.map (joined_window (position_of c)) old image = one_unit_torn job.id job.map (joined_window (position_of c)) c.unit old image (Contains-push c.pending c.unit) (record { span = u; is = putting.is; torn = torn_within u.at u.len torn (omega arith) (omega (arith, putting.whole)) }) in
-            torn_each (wider unit_torn (λ k among. Contains-append_right c.pending (c.unit ∷ []) k among))
-            (torn_at_then (wider (fits.images old was) (λ k among. Contains-append_left c.pending (c.unit ∷ []) k among)) unit)
+            torn_each (wider job.id job.map (c.unit ∷ []) (joined_window (position_of c)) (a.reads Target) (b.reads Target) unit_torn (λ k among. Contains-append_right c.pending (c.unit ∷ []) k among))
+            (torn_at_then (wider job.id job.map c.pending (joined_window (position_of c)) (a.reads Target) old (fits.images old was) (λ k among. Contains-append_left c.pending (c.unit ∷ []) k among)) unit)
 
         same_marks : KeepsMarks job.id (a.reads Journal) d
         same_marks = record {
@@ -322,7 +322,7 @@ module _ (job : CopyJob) (c : Course) (u : Span) (bytes : List ℕ) (putting : I
         }
 
         before_same : bytes_before job c.range c.unit (b.reads Target) ≡ bytes_before job c.range c.unit (a.reads Target)
-        before_same = before_kept job c.range c.unit (c.unit ∷ []) (a.reads Target) (b.reads Target) putting.job mine.there unit_torn (λ x low high among. let same : c.unit ≡ x = only c.unit x among in omega (arith, same, high))
+        before_same = before_kept job c.range c.unit (c.unit ∷ []) (a.reads Target) (b.reads Target) putting.of_job mine.there unit_torn (λ x low high among. let same : c.unit ≡ x = only c.unit x among in omega (arith, same, high))
 
         before_more : bytes_before job c.range (c.unit + 1) (b.reads Target) ≡ bytes_before job c.range c.unit (a.reads Target) ++ bytes
         before_more = before_next job c.range c.unit u (b.reads Target) mine putting.is ∙ ap (λ (l : List ℕ). l ++ part_of u (b.reads Target)) before_same ∙ ap (λ (l : List ℕ). bytes_before job c.range c.unit (a.reads Target) ++ l) reads_bytes
@@ -345,7 +345,7 @@ module _ (job : CopyJob) (c : Course) (u : Span) (bytes : List ℕ) (putting : I
           | inl there ↦
               let from : HasFrom v s (a.reads Target) = copied k v there at in
               let less : k < c.unit = (is_pending k there).1 in
-              record { there = from.there; same = other_unit job.id job.map (c.unit ∷ []) k v (a.reads Target) (b.reads Target) putting.job.of_map unit_torn at (λ its. let same : c.unit ≡ k = only c.unit k its in omega (arith, same, less)) ∙ from.same }
+              record { there = from.there; same = other_unit job.id job.map (c.unit ∷ []) k v (a.reads Target) (b.reads Target) putting.of_job.of_map unit_torn at (λ its. let same : c.unit ≡ k = only c.unit k its in omega (arith, same, less)) ∙ from.same }
           | inr same ↦
               let its : IsUnitAt job.id job.map c.unit v = subst (λ (n : ℕ). IsUnitAt job.id job.map n v) (sym same) at in
               let from : AreFrom u s bytes = sources u putting.is in
@@ -372,7 +372,7 @@ module _ (job : CopyJob) (c : Course) (u : Span) (bytes : List ℕ) (putting : I
           pub taken_along : PuttingIsAlong job bytes c d a b
           taken_along source start along sources =
               let at_c : Along job.id job.map source start c.window (taken (position_of c)) (b.reads Target) (a.reads Journal) =
-              taken_is_along job.id job.map source start c.window (position_of c) (a.reads Target) (b.reads Target) (a.reads Journal) putting.job.of_map along (room_left d takes on) (is_written source start along sources) in
+              taken_is_along job.id job.map source start c.window (position_of c) (a.reads Target) (b.reads Target) (a.reads Journal) putting.of_job.of_map along (room_left d takes on) (is_written source start along sources) in
               let at_w : Along job.id job.map source start d.window (taken (position_of c)) (b.reads Target) (a.reads Journal) =
               subst (λ (w : ℕ). Along job.id job.map source start w (taken (position_of c)) (b.reads Target) (a.reads Journal)) (sym (ap (λ (x : Course). x.window) takes.same)) at_c in
               let at_d : Along job.id job.map source start d.window (position_of d) (b.reads Target) (a.reads Journal) =
@@ -389,19 +389,19 @@ module _ (job : CopyJob) (c : Course) (u : Span) (bytes : List ℕ) (putting : I
 
           pub close_keeps_since : ClosingKeepsSince job.id d.pending b e → (source : Option (List ℕ)) (before : List ℕ) → WindowIsCopied job source c a → AreSources job source c.unit bytes → Keeps (Since job.id job.map source before) b e
           close_keeps_since keeps source before copied sources =
-              keeps job.map source before putting.job.of_map (taken_copied source copied sources) none_checked
+              keeps job.map source before putting.of_job.of_map (taken_copied source copied sources) none_checked
 
           pub close_is_near : (source : Option (List ℕ)) (start : Pair) → IsAlong job source start c a → (s : List ℕ) → StaysNear job.id job.map s start c.window b e
           close_is_near source start along s =
               let all : AreOpen job.id job.map start (position_of c) d.pending = subst (λ (ks : List ℕ). AreOpen job.id job.map start (position_of c) ks) (sym joined_is) (all_open source start along) in
-              closing_is_near closes job.map source s start c.window (position_of c) (joined_window (position_of c)) (a.reads Target) putting.job.of_map (open_after source start along) all
+              closing_is_near closes job.map source s start c.window (position_of c) (joined_window (position_of c)) (a.reads Target) putting.of_job.of_map (open_after source start along) all
 
           module _ (f : Course) (records : Records d f) (marked : All (λ k. IsMarked (e.reads Journal) (unit_mark k)) d.pending) (target : IsSettled e Target) (journal : IsSettled e Journal) (still : IsOpenedFor job.id (e.reads Journal)) where
             marked_at : (k : ℕ) → Contains d.pending k → IsMarked (e.reads Journal) (unit_mark k)
             marked_at k among = All-contains (λ x. IsMarked (e.reads Journal) (unit_mark x)) d.pending k marked among
 
             pending_below : (k : ℕ) → Contains d.pending k → k < job.id.units
-            pending_below k among = in_range_below job.id job.map k c.range putting.job.of_map (joined_at k (subst (λ (ks : List ℕ). Contains ks k) joined_is among)).0
+            pending_below k among = in_range_below job.id job.map k c.range putting.of_job.of_map (joined_at k (subst (λ (ks : List ℕ). Contains ks k) joined_is among)).0
 
             pub recorded_fits : IsFitting job f e
             recorded_fits = record {
@@ -430,7 +430,7 @@ module _ (job : CopyJob) (c : Course) (u : Span) (bytes : List ℕ) (putting : I
                 let torn : MarksTorn (joined_window (position_of c)) (a.reads Journal) (e.reads Journal) =
                 subst (λ (ks : List ℕ). MarksTorn ks (a.reads Journal) (e.reads Journal)) joined_is (subst (λ (j : List ℕ). MarksTorn d.pending j (e.reads Journal)) same_journal closes.journal) in
                 let at_b : Along job.id job.map source start c.window (closed (position_of c)) (b.reads Target) (e.reads Journal) =
-                closed_is_along job.id job.map source start c.window (position_of c) (a.reads Target) (b.reads Target) (a.reads Journal) (e.reads Journal) putting.job.of_map along (is_written source start along sources) torn
+                closed_is_along job.id job.map source start c.window (position_of c) (a.reads Target) (b.reads Target) (a.reads Journal) (e.reads Journal) putting.of_job.of_map along (is_written source start along sources) torn
                 (λ k among. record { opened = still; mark = marked_at k (subst (λ (ks : List ℕ). Contains ks k) (sym joined_is) among) }) in
                 let at_e : Along job.id job.map source start c.window (closed (position_of c)) (e.reads Target) (e.reads Journal) =
                 subst (λ (t : List ℕ). Along job.id job.map source start c.window (closed (position_of c)) t (e.reads Journal)) (sym closes.target) at_b in

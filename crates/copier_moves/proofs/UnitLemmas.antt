@@ -75,7 +75,8 @@ before_next job r k u t mine is =
 -- before the first there are none, and before the number behind the last there are the range's
 pub before_first : (job : CopyJob) (r : ℕ) (t : List ℕ) → bytes_before job r (first_in job r) t ≡ []
 before_first job r t =
-    ap (λ (n : ℕ). parts_of (take n (get_or (rows_in job) r [])) t) (omega arith)
+    let none : first_in job r - first_in job r ≡ 0 = omega arith in
+    ap (λ (n : ℕ). parts_of (take n (get_or (rows_in job) r [])) t) none
 
 pub before_end : (job : CopyJob) (r : ℕ) (range : Range) (t : List ℕ) → IsCopyJob job → slice_get job.map.ranges r ≡ Some range → r < length (rows_in job) → r < length job.map.ranges →
     bytes_before job r (first_in job (r + 1)) t ≡ part_of (range_span job.map range) t
