@@ -22,8 +22,8 @@ pub record Copying : Type 0 where
 
 -- what holds of every copier: where it hasn't refused, of its course
 pub record IsCopying (job : CopyJob) (course : Course) (failed : Option CopyFault) : Type 0 where
-  pub job : IsCopyJob job
-  pub course : failed ≡ None → IsCourse job course
+  pub of_map : IsCopyJob job
+  pub going : failed ≡ None → IsCourse job course
 
 -- it fits its devices, or has refused
 abbrev pub Fits : Copying → Disk → Type 0
@@ -41,7 +41,7 @@ left_of c = (c.job.id.units - c.course.unit) + (c.job.id.ranges - c.course.range
 -- it has this job and a lease of the pool, hasn't refused, and has no unit in its window; all else of the pool is as
 -- before
 pub record IsOpened (job : CopyJob) (old new : Buffers) (c : Copying) : Type 0 where
-  pub job : c.job ≡ job
+  pub same_job : c.job ≡ job
   pub fine : c.failed ≡ None
   pub window : c.course.pending ≡ []
   pub was_free : IsFree old c.lease.slot
