@@ -1,15 +1,15 @@
 -- A unit that is kept, and a range that is ended.
 use Rattle.std.proofs.Common.{◌≡◌, ℕ, ◌+◌, ◌-◌, ◌<◌, ◌≤◌, min, List, [], ◌∷◌, ◌++◌, Contains, length, get_or, drop, inl, inr, refl, sym, subst, ap, ⊎_elim, ◌∙◌, arith, length-drop, length-take}
 use Rattle.std.proofs.lemmas.Grind.{same_number_lists}
-use Rattle.std.proofs.lemmas.Option.{slice_get_within}
-use Rattle.std.specs.Prelude.{IfSome, None, Option, Some, slice_index}
+use Rattle.std.proofs.lemmas.Option.{slice_get-get_or, slice_get_within}
+use Rattle.std.specs.Prelude.{IfSome, None, Option, Some, slice_index, slice_set}
 use Rattle.base_fields.specs.declared.spans.Span.{Span}
 use Rattle.bench.specs.declared.Dev.{Dev}
 use Rattle.bench.specs.declared.Dev.TheVariants.{Journal, Target}
 use Rattle.bench.specs.Disk.{Disk, EachPair, IsSettled, Keeps, Looked, Touches}
 use Rattle.bench.proofs.DiskLemmas.{torn_at_none}
 use Rattle.block_map.specs.Maps.{digest_in, part_of, range_span}
-use Rattle.block_map.specs.Units.{units_by_range}
+use Rattle.block_map.specs.Units.{Cut, first_of, units_by_range}
 use Rattle.block_map.specs.declared.maps.BlockMap.{BlockMap}
 use Rattle.block_map.specs.declared.maps.Range.{Range}
 use Rattle.block_map.proofs.Index.{first_next, one_range}
@@ -38,7 +38,7 @@ use Rattle.copier_course.specs.Courses.{Adds, Checks, IsAtFirst, IsBehind, IsCop
 use Rattle.copier_course.specs.declared.courses.Course.{Course}
 use Rattle.copier_course.specs.declared.jobs.CopyJob.{CopyJob}
 use Rattle.copier_moves.specs.Fitting.{IsFitting, IsHashed, KeepsMarks, bytes_before}
-use Rattle.copier_moves.specs.Moves.{IsAlong, IsDifference, IsKept, IsNoDifference, MovingIsAlong, MovingIsNear, MovingKeepsSince, NoneRecorded}
+use Rattle.copier_moves.specs.Moves.{Differs, IsAlong, IsDifference, IsKept, IsNoDifference, MovingIsAlong, MovingIsNear, MovingKeepsSince, NoneRecorded}
 use Rattle.copier_moves.proofs.MarkLemmas.{marks_checked, position_on, range_is, unit_is}
 use Rattle.copier_moves.proofs.PutLemmas.{hashed_as}
 use Rattle.copier_moves.proofs.UnitLemmas.{before_end, before_first, before_next}
@@ -260,3 +260,38 @@ module _ (job : CopyJob) (c : Course) (is : IsCopyJob job) (course : IsCourse jo
             let same : slice_index (b.reads Journal) (range_mark job.id c.range) ≡ slice_index (a.reads Journal) (range_mark job.id c.range) = touches.reads.above (range_mark job.id c.range) (omega (arith, from, many, next, within)) in
             course.position.present.unchecked behind.there ((range_is job.id (a.reads Journal) c fits.opened fits.marks c.range behind.there).1 (record { opened = fits.opened; mark = sym same ∙ here.mark }));
       }
+
+-- ---- by the units of the job
+pub rows_inside : (job : CopyJob) (r : ℕ) → IsCopyJob job → r < job.id.ranges → r < length job.units.rows
+rows_inside job r is there =
+    let same : length job.units.rows ≡ length (rows_in job) = ap (λ (x : Cut). length x.rows) is.cut in
+    omega (arith, same, rows_length job.id job.map, is.of_map.ranges, there)
+
+pub first_is : (job : CopyJob) (r first : ℕ) → IsCopyJob job → first ≡ first_of job.units.rows r → first ≡ first_in job r
+first_is job r first is from = from ∙ ap (λ (x : Cut). first_of x.rows r) is.cut
+
+pub count_is : (job : CopyJob) (r count : ℕ) → IsCopyJob job → count ≡ length (get_or job.units.rows r []) → count ≡ length (get_or (rows_in job) r [])
+count_is job r count is many = many ∙ ap (λ (x : Cut). length (get_or x.rows r [])) is.cut
+
+pub range_there : (job : CopyJob) (r : ℕ) → r < length job.map.ranges → (range : Range) × IsRangeAt job.map r range
+range_there job r below =
+    let none : Range = record { first = 0; last = 0; digest = None } in
+    (get_or job.map.ranges r none, slice_get-get_or job.map.ranges r none below)
+
+-- ---- a hash that is taken out
+pub course_rehashed : (job : CopyJob) (c d : Course) → d ≡ record c { hash = d.hash } → IsCourse job c → IsCourse job d
+course_rehashed job c d same course = subst (λ (x : Course). IsCourse job x) (sym same) (record { units = course.units; ranges = course.ranges; window = course.window; position = course.position })
+
+pub behind_rehashed : (job : CopyJob) (c d : Course) → d ≡ record c { hash = d.hash } → IsBehind job c → IsBehind job d
+behind_rehashed job c d same behind = subst (λ (x : Course). IsBehind job x) (sym same) (record { there = behind.there; end = behind.end })
+
+pub checks_rehashed : (c d e : Course) → d ≡ record c { hash = d.hash } → Checks d e → Checks c e
+checks_rehashed c d e same checks = record {
+  later = subst (λ (n : ℕ). n < e.range) (ap (λ (x : Course). x.range) same) checks.later;
+  units = checks.units ∙ ap (λ (x : Course). x.units) same;
+  ranges = checks.ranges ∙ ap (λ (x : Course). slice_set x.ranges x.range 0x44) same;
+  window = checks.window ∙ ap (λ (x : Course). x.window) same;
+}
+
+pub no_difference_of : (job : CopyJob) (c : Course) (answer : Option (List ℕ × List ℕ)) → answer ≡ None → Differs job c answer → IsNoDifference job c
+no_difference_of job c answer none differs = subst (λ (x : Option (List ℕ × List ℕ)). Differs job c x) none differs

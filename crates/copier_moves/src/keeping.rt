@@ -23,7 +23,6 @@ use sha2::{Digest, Sha256};
 
 /// Passes the present unit, which is recorded. Where its range has a digest, it is read from the target into the
 /// buffer and hashed. Nothing is written.
-#[tactic(none)]
 pub fn keep_unit<B: Bench>(
     bench: &mut B,
     job: &CopyJob,
@@ -89,7 +88,6 @@ fn hash_unit<B: Bench>(
 /// Ends the present range, each unit of which is passed: where it has a digest and the target's bytes have another,
 /// all records of its units are taken back and it refuses; else the range is recorded. After a fault the course is of
 /// no more use.
-#[tactic(none)]
 pub fn end_range<B: Bench>(
     bench: &mut B,
     job: &CopyJob,
