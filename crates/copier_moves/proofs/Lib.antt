@@ -3,3 +3,4 @@ pub mod MarkLemmas
 pub mod UnitLemmas
 pub mod PutLemmas
 pub mod EndLemmas
+pub mod KeepLemmas
