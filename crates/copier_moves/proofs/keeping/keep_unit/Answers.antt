@@ -1,5 +1,5 @@
 -- A recorded unit is passed, read again where its range has a digest.
-use Rattle.std.proofs.Common.{rules, ◌≡◌, ◌≤◌, None, refl, sym, ◌∙◌, arith}
+use Rattle.std.proofs.Common.{rules, ◌≡◌, ◌+◌, ◌≤◌, None, refl, sym, ◌∙◌, arith}
 use Rattle.copier_moves.proofs.EndLemmas.{kept_along, kept_course, kept_fits, look_is_near}
 use Rattle.copier_moves.proofs.KeepLemmas.{image_size, looked_none, no_some, unit_at, unit_size}
 use Rattle.copier_moves.proofs.PutLemmas.{inside_below, number_inside}
@@ -35,7 +35,7 @@ returns-in_default-clause-narrow g c told =
 
 pub returns-in_default-clause-along : goal.returns-in_default-clause-along
 returns-in_default-clause-along g c told =
-    kept_along c.args.job.now c.args.course.now _ c.requires.job c.requires.course c.requires.inside c.requires.marked refl (c.requires.fits told) (looked_none (g.B.Bench.disk c.args.bench.now))
+    kept_along c.args.job.now c.args.course.now (record c.args.course.now { unit = c.args.course.now.unit + 1 }) c.requires.job c.requires.course c.requires.inside c.requires.marked refl (c.requires.fits told) (looked_none (g.B.Bench.disk c.args.bench.now))
 
 pub returns-in_default-clause-course : goal.returns-in_default-clause-course
 returns-in_default-clause-course g c =
@@ -71,7 +71,7 @@ returns-clause-fits g c told =
 
 pub returns-clause-along : goal.returns-clause-along
 returns-clause-along g c told =
-    kept_along c.args.job.now c.args.course.now _ c.requires.job c.requires.course c.requires.inside c.requires.marked refl (c.requires.fits told) c.hash_unit.ensures.looked
+    kept_along c.args.job.now c.args.course.now (record c.args.course.now { unit = c.args.course.now.unit + 1; hash = c.hash_unit.new.hasher }) c.requires.job c.requires.course c.requires.inside c.requires.marked refl (c.requires.fits told) c.hash_unit.ensures.looked
 
 pub returns-clause-course : goal.returns-clause-course
 returns-clause-course g c =
