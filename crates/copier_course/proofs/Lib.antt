@@ -1,0 +1,3 @@
+-- lemmas
+pub mod CourseLemmas
+pub mod Positions

@@ -1,0 +1,6 @@
+-- lemmas
+pub mod MarkLemmas
+pub mod UnitLemmas
+pub mod PutLemmas
+pub mod EndLemmas
+pub mod KeepLemmas
