@@ -1,6 +1,4 @@
 -- lemmas
-mod ByKind
-mod Counting
 mod Laid
 mod Measured
 mod Sized

@@ -1,18 +1,13 @@
 -- What a length says of the file of a sparse image's one source.
-use Rattle.std.specs.Prelude.{◌≡◌, ℕ, ◌<◌, ◌≤◌, Bool, true, false, not, List, [], Option, Some, None, Result, Ok, Err}
+use Rattle.std.specs.Prelude.{◌≡◌, ℕ, ◌≤◌, Bool, true, false, not, List, [], Option, Some, None, Result, Ok, Err}
 use Rattle.std.specs.Prelude.{is_none, length, nat_le, unwrap_or}
-use Rattle.std.proofs.Common.{refl, sym, subst, arith}
+use Rattle.std.proofs.Common.{refl, sym, subst}
 use Rattle.std.proofs.lemmas.Bool.{leb-true}
 use Rattle.base_fields.specs.Results.{◌>>=◌, when}
-use Rattle.base_fields.specs.declared.spans.Span.{Span}
 use Rattle.image_plan.specs.Lengths.{is_lacking, length_under}
 use Rattle.image_plan.specs.declared.faults.PlanFault.{PlanFault}
 use Rattle.image_plan.specs.declared.faults.PlanFault.TheVariants.{Missing}
-use Rattle.outside.specs.Files.{Tree, bytes_of}
-use Rattle.outside.specs.declared.files.ComposeFault.{ComposeFault}
-use Rattle.outside.specs.declared.files.ComposeFault.TheVariants as compose
-use Rattle.sparse_writer.specs.Answers.{IsRefusal}
-use Rattle.build_job.specs.Faults.{IsComposeCounted}
+use Rattle.outside.specs.Files.{Tree}
 
 -- a file that is there and has that many bytes, at most so many
 pub record IsRead (file : Option (List ℕ)) (most len : ℕ) : Type 0 where
@@ -48,18 +43,3 @@ pub read_by : (before : Tree) (most len : ℕ) (far : ℕ → PlanFault) (name :
 read_by before most len far name text named said =
     by_file (before text) most len far
     (subst (λ (o : Option (List ℕ)). said_by before most far o ≡ Ok len) named said)
-
--- such a file lacks no byte
-pub none_lacks : (cover : List Span) (block most len : ℕ) (file : Option (List ℕ)) (fault : ComposeFault)
-    → IsRead file most len → IsRefusal cover block len file fault → IsComposeCounted fault
-none_lacks cover block most len file (compose.Missing part) read h =
-    let found : file ≡ Some (unwrap_or file []) = read.found in
-    let none : file ≡ None = h in
-    absurd (cc)
-none_lacks cover block most len file (compose.SourceShort part at) read h =
-    let below : at < len = h.1.needed.0 in
-    let past : length (unwrap_or file []) ≤ at = h.1.lacks in
-    let long : len ≡ length (unwrap_or file []) = read.long in
-    absurd (omega (arith, below, past, long))
-none_lacks cover block most len file compose.FileFault read h = tt
-none_lacks cover block most len file compose.NoMemory read h = tt

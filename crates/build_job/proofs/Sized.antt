@@ -1,34 +1,12 @@
 -- The lengths of the files of images that are built, one after another.
-use Rattle.std.specs.Prelude.{◌≡◌, ℕ, suc, List, [], ◌∷◌, ◌++◌, All, length, map, slice_get, take}
+use Rattle.std.specs.Prelude.{◌≡◌, ℕ, suc, List, [], ◌∷◌, ◌++◌, Some, length, map, slice_get, take}
 use Rattle.std.specs.List.{filter_map}
-use Rattle.std.proofs.Common.{ap, sym, ◌∙◌}
+use Rattle.std.proofs.Common.{ap, subst, sym, ◌∙◌}
 use Rattle.std.proofs.lemmas.List.{map-append}
-use Rattle.std.proofs.lemmas.List.Elements.{All-weaker}
-use Rattle.build_laws.specs.Builds.{Built, IsBuilt, IsOfKind}
-use Rattle.build_laws.specs.Order.{ordered}
-use Rattle.conf_keys.specs.declared.conf.Kind.{Kind}
-use Rattle.conf_keys.specs.declared.conf.Kind.TheVariants as kind
 use Rattle.image_graph.specs.declared.images.Graph.{Graph}
 use Rattle.image_specs.specs.declared.specs.ImageSpec.{ImageSpec}
 use Rattle.outside.specs.Files.{Tree, bytes_of}
-use Rattle.build_job.specs.Files.{HasFile}
 use Rattle.build_job.proofs.Steps.{StandsAt, found_at, taken_at}
-
--- ---- each file is there
-
-of_kind : (k : Kind) (all : List ImageSpec) (sources : Tree) (spec : ImageSpec) (file : Tree)
-    → IsOfKind k all sources spec file → HasFile file spec
-of_kind kind.Hd all sources spec file made = made.has.there
-of_kind kind.Plain all sources spec file made = made.has.there
-of_kind kind.Flash all sources spec file made = made.has.there
-of_kind kind.Sparse all sources spec file made = made.has.0
-of_kind kind.Ready all sources spec file made = absurd made
-
-pub all_have_files : (graph : Graph) (before after : Tree) → Built graph.specs before (ordered graph) after
-    → All (HasFile after) (ordered graph)
-all_have_files graph before after built =
-    All-weaker (IsBuilt graph.specs after) (HasFile after)
-    (λ spec made. of_kind spec.kind graph.specs after spec after made) (ordered graph) built.each
 
 -- ---- one length more
 
@@ -49,3 +27,18 @@ sizes_more graph file k n d spec sizes new len next_number stands so_far long gr
     ∙ ap (λ (l : ℕ). map (size_in file) front ++ l ∷ []) long
     ∙ sym (map-append (size_in file) front (spec ∷ []))
     ∙ ap (map (size_in file)) (sym more)
+
+-- ---- a file under the same name in the same files
+
+pub there_still : (old now : Tree) (name given : List ℕ) → now ≡ old → given ≡ name → old name ≡ Some (bytes_of old name)
+    → now given ≡ Some (bytes_of now given)
+there_still old now name given same_files same_name there =
+    subst (λ (t : Tree). t given ≡ Some (bytes_of t given)) (sym same_files)
+    (subst (λ (n : List ℕ). old n ≡ Some (bytes_of old n)) (sym same_name) there)
+
+pub long_still : (old now : Tree) (name given : List ℕ) (len : ℕ) → now ≡ old → given ≡ name
+    → len ≡ length (bytes_of now given) → len ≡ length (bytes_of old name)
+long_still old now name given len same_files same_name long =
+    long
+    ∙ ap (λ (t : Tree). length (bytes_of t given)) same_files
+    ∙ ap (λ (n : List ℕ). length (bytes_of old n)) same_name

@@ -1,5 +1,5 @@
 //! What counts of that which is put into a sparse image.
-ghost use Rattle.std.specs.Prelude.{◌≡◌, ◌<◌, ◌≤◌, ◌^◌, All, IfErr, IfOk, IfSome, IsOkAnd, IsTrue, length};
+ghost use Rattle.std.specs.Prelude.{◌≡◌, ℕ, ◌<◌, ◌≤◌, ◌^◌, All, IfErr, IfOk, IsOkAnd, IsTrue, length};
 ghost use Rattle.build_laws.specs.Builds.{IsCoverFor, IsCoverOf, IsWhole, child_in};
 ghost use Rattle.image_graph.specs.IsGraph.{IsMadeOf};
 ghost use Rattle.image_plan.specs.Plans.{is_planned, plan_said};
