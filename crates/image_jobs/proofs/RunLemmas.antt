@@ -14,6 +14,7 @@ use Rattle.build_job.specs.Faults.{IsShown as IsBuildShown}
 use Rattle.build_job.specs.Said.{sizes_of}
 use Rattle.build_job.specs.declared.faults.BuildFault.{BuildFault}
 use Rattle.build_job.specs.declared.faults.BuildFault.TheVariants as build
+use Rattle.conf_keys.specs.Within.{IsWithin}
 use Rattle.conf_keys.specs.declared.conf.Conf.{Conf}
 use Rattle.conf_sections.specs.declared.fault.ConfFault.{ConfFault}
 use Rattle.conf_sections.specs.declared.fault.ConfFault.TheVariants as conf
@@ -28,8 +29,10 @@ use Rattle.placement_rules.specs.declared.faults.PlaceFault.{PlaceFault}
 use Rattle.placement_rules.specs.declared.faults.PlaceFault.TheVariants as place
 use Rattle.image_jobs.proofs.LineLemmas.{report_is_done}
 use Rattle.image_jobs.specs.Answering.{IsCopied, build_answer, conf_answer, graph_answer, is_counted, place_answer}
+use Rattle.image_jobs.specs.Build.{with_paths}
 use Rattle.image_jobs.specs.BuildArm.{BuildChanges, IsShown, build_lines, done_lines, lines_by}
 use Rattle.image_jobs.specs.Printed.{HasError, IsRefusal, Reports, report_lines, reported_by}
+use Rattle.image_jobs.specs.declared.request.Request.{Request}
 
 -- ---- the reading
 
@@ -47,6 +50,10 @@ conf_refuses wanted with next (conf.Missing name) h = rw h refl
 conf_refuses wanted with next (conf.SourceShort name at) h = rw h refl
 conf_refuses wanted with next conf.FileFault h = tt
 conf_refuses wanted with next conf.NoMemory h = tt
+
+-- other paths break no limit
+pub paths_within : (request : Request) (own conf : Conf) → conf ≡ with_paths request own → IsWithin own → IsWithin conf
+paths_within request own conf same h = subst IsWithin (sym same) (record { flashes = h.flashes; images = h.images })
 
 -- so is that of its graph
 pub graph_refuses : (wanted : Result Graph GraphFault) (fault : GraphFault) → (fault ≢ graph.NoMemory → wanted ≡ Err fault)
