@@ -144,8 +144,8 @@ pub position_so : (id : JobId) (m : BlockMap) (recorded checked now_recorded now
     IsPosition id m recorded checked w p → IsPosition id m now_recorded now_checked w p
 position_so id m recorded checked now_recorded now_checked w p job units ranges at =
     let below : (k r : ℕ) → IsInRange id m k r → k < id.units = λ k r mine.
-        let rise : first_of (units_by_range m id.unit) (r + 1) ≤ first_of (units_by_range m id.unit) id.ranges = first_rises (units_by_range m id.unit) (r + 1) id.ranges (omega (arith, mine.there, rows_length id m, job.ranges)) in
-        omega (arith, rise, first_at_end id m job, mine.to) in
+    let rise : first_of (units_by_range m id.unit) (r + 1) ≤ first_of (units_by_range m id.unit) id.ranges = first_rises (units_by_range m id.unit) (r + 1) id.ranges (omega (arith, mine.there, rows_length id m, job.ranges)) in
+    omega (arith, rise, first_at_end id m job, mine.to) in
     record {
       present = record {
         within = at.present.within;

@@ -6,7 +6,7 @@ mod courses;
 mod jobs;
 mod window;
 
+pub use copy_opening::Mode;
 pub use courses::Course;
 pub use jobs::{CopyJob, Need};
 pub use window::Window;
-pub use copy_opening::Mode;

@@ -359,13 +359,13 @@ module _ (job : CopyJob) (c : Course) (u : Span) (bytes : List ℕ) (putting : I
 
         pub is_written : (source : Option (List ℕ)) (start : Pair) → IsAlong job source start c a → AreSources job source c.unit bytes → IsWritten job.id job.map source start (position_of c) (a.reads Target) (b.reads Target)
         is_written source start along sources = writes_are_written a b job.id job.map source start (position_of c) u bytes (record {
-            idle = idle source start along;
-            mine = mine;
-            is = putting.is;
-            whole = putting.whole;
-            inside = omega (arith, putting.end, fits.room);
-            copied = source_kept source (λ s. (v : Span) → IsUnitAt job.id job.map c.unit v → AreFrom v s bytes) (λ s. AreFrom u s bytes) (λ s from. from u putting.is) sources;
-          }) touches wrote
+          idle = idle source start along;
+          mine = mine;
+          is = putting.is;
+          whole = putting.whole;
+          inside = omega (arith, putting.end, fits.room);
+          copied = source_kept source (λ s. (v : Span) → IsUnitAt job.id job.map c.unit v → AreFrom v s bytes) (λ s. AreFrom u s bytes) (λ s from. from u putting.is) sources;
+        }) touches wrote
 
         -- ---- the window stays open
         module _ (on : GoesOn job d) where

@@ -5,7 +5,9 @@ use copy_stages::DeviceFault;
 #[derive(Clone, Copy, Debug, PartialEq, Eq)]
 pub enum EndFault {
     /// A call on the device failed.
-    DeviceFault { dev: Dev },
+    DeviceFault {
+        dev: Dev,
+    },
     /// The target's bytes of range `range`, counted from 0, aren't those of the map: `want` is its digest in the map,
     /// `got` that of the target's bytes. No unit of the range is recorded then.
     RangeDiffers {
