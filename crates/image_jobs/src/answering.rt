@@ -1,5 +1,5 @@
 //! The answer of a fault.
-ghost use Rattle.std.specs.Prelude.{◌≡◌, IfOk};
+ghost use Rattle.std.specs.Prelude.{◌≡◌};
 ghost use Rattle.image_jobs.specs.Answering.{IsCopied, build_answer, compose_answer, conf_answer, file_at, full_at, graph_answer};
 ghost use Rattle.image_jobs.specs.Answering.{length_answer, place_answer, plan_answer, read_answer, source_file};
 ghost use Rattle.image_jobs.specs.Printed.{IsRefusal};

@@ -1,4 +1,4 @@
-ghost use Rattle.std.specs.Prelude.{◌≡◌, ◌≤◌, [], ◌∷◌, map, string_bytes};
+ghost use Rattle.std.specs.Prelude.{◌≤◌, [], ◌∷◌, map, string_bytes};
 ghost use Rattle.outside.specs.Counts.{NoneFell};
 ghost use Rattle.answer_lines.specs.Answer.{error_text};
 ghost use Rattle.job_stages.specs.Printing.{Prints};

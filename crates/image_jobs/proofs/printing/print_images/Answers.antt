@@ -1,4 +1,4 @@
-use Rattle.std.proofs.Common.{arith, rules}
+use Rattle.std.proofs.Common.{rules}
 use Rattle.image_jobs.proofs.LineLemmas.{all_printed, image_more}
 use Rattle.image_jobs.proofs.printing.print_images.Goals as goal
 
