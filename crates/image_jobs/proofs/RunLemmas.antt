@@ -36,20 +36,19 @@ use Rattle.image_jobs.specs.declared.request.Request.{Request}
 
 -- ---- the reading
 
--- the fault of the configuration is the plan's refusal
-pub conf_refuses : (wanted : Result Conf ConfFault) (with : Conf → Conf) (next : Conf → Result Graph Answer) (fault : ConfFault)
-    → ConfRefuses wanted fault
-    → Refuses is_counted (refused_by conf_answer wanted >>= (λ conf. Ok (with conf)) >>= next) (conf_answer fault)
-conf_refuses wanted with next (conf.BadText name place) h = rw h refl
-conf_refuses wanted with next (conf.UnknownKey name place) h = rw h refl
-conf_refuses wanted with next (conf.BadValue name place) h = rw h refl
-conf_refuses wanted with next (conf.Unset var) h = rw h refl
-conf_refuses wanted with next (conf.DeepInclude name) h = rw h refl
-conf_refuses wanted with next (conf.TooLong total) h = rw h refl
-conf_refuses wanted with next (conf.Missing name) h = rw h refl
-conf_refuses wanted with next (conf.SourceShort name at) h = rw h refl
-conf_refuses wanted with next conf.FileFault h = tt
-conf_refuses wanted with next conf.NoMemory h = tt
+-- the fault of the configuration is the refusal of what follows it, too
+pub conf_refuses : {A : Type 0} (wanted : Result Conf ConfFault) (next : Conf → Result A Answer) (fault : ConfFault)
+    → ConfRefuses wanted fault → Refuses is_counted (refused_by conf_answer wanted >>= next) (conf_answer fault)
+conf_refuses wanted next (conf.BadText name place) h = rw h refl
+conf_refuses wanted next (conf.UnknownKey name place) h = rw h refl
+conf_refuses wanted next (conf.BadValue name place) h = rw h refl
+conf_refuses wanted next (conf.Unset var) h = rw h refl
+conf_refuses wanted next (conf.DeepInclude name) h = rw h refl
+conf_refuses wanted next (conf.TooLong total) h = rw h refl
+conf_refuses wanted next (conf.Missing name) h = rw h refl
+conf_refuses wanted next (conf.SourceShort name at) h = rw h refl
+conf_refuses wanted next conf.FileFault h = tt
+conf_refuses wanted next conf.NoMemory h = tt
 
 -- other paths break no limit
 pub paths_within : (request : Request) (own conf : Conf) → conf ≡ with_paths request own → IsWithin own → IsWithin conf
@@ -65,9 +64,17 @@ graph_refuses wanted (graph.NameClash name) h = rw (h (λ is. cc)) refl
 graph_refuses wanted (graph.Cycle name) h = rw (h (λ is. cc)) refl
 graph_refuses wanted graph.NoMemory h = tt
 
+pub graph_shown : (before now : Counts) (fault : GraphFault) → IsShown before now (graph_answer fault)
+graph_shown before now (graph.TooMany count limit) = tt
+graph_shown before now (graph.NoKind image count) = tt
+graph_shown before now (graph.NoFlash image) = tt
+graph_shown before now (graph.NameClash name) = tt
+graph_shown before now (graph.Cycle name) = tt
+graph_shown before now graph.NoMemory = tt
+
 -- ---- the causes of a fault of the building
 
-place_shown : (before now : Counts) (fault : PlaceFault) → IsShown before now (place_answer fault)
+pub place_shown : (before now : Counts) (fault : PlaceFault) → IsShown before now (place_answer fault)
 place_shown before now (place.TooManyEntries count) = tt
 place_shown before now (place.Misaligned part value align) = tt
 place_shown before now (place.BadHoles part index) = tt

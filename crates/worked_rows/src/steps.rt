@@ -71,7 +71,7 @@ impl Step {
             Step::New(title) => begin(world, &title),
             Step::Files(step) => step.play(&mut world.setting),
             Step::Calls(step) => step.play(&mut world.setting),
-            Step::Run(step) => step.play(&mut world.setting),
+            Step::Run(step) => step.play(world),
             Step::Answers(step) => step.play(&mut world.setting),
             Step::Texts(step) => step.play(&mut world.setting),
             Step::Layouts(step) => step.play(&mut world.setting),
