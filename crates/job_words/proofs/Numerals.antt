@@ -17,7 +17,7 @@ same_test : (t : Text) → list_all is_ascii_digit t ≡ all_ascii_digits t
 same_test [] = refl
 same_test (c ∷ cs) = ap (λ b. is_ascii_digit c && b) (same_test cs)
 
-pub both : (a b : Bool) → (a && b) ≡ true → (a ≡ true) × (b ≡ true)
+both : (a b : Bool) → (a && b) ≡ true → (a ≡ true) × (b ≡ true)
 both true b e = (refl, e)
 both false b e = absurd (bad e)
   where

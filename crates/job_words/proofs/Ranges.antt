@@ -1,18 +1,19 @@
--- The numbers of a job are in their ranges.
-use Rattle.std.proofs.Common.{◌≡◌, ◌≤◌, ℕ, Bool, cond, true, false, IsTrue, List, [], ◌∷◌, Option, Some, None, refl, subst, sym, leb-true}
-use Rattle.std.specs.Prelude.{option_and_then, option_map, codes, if◌then◌else◌}
+-- The blocks, pages and windows of a job are in their ranges.
+use lib.Count.{ones}
+use Rattle.std.proofs.Common.{◌≡◌, ◌≤◌, ℕ, Bool, cond, true, false, List, [], ◌∷◌, Option, Some, None, refl, subst, arith, leb-true}
+use Rattle.std.specs.Prelude.{IsTrue, option_and_then, option_map, codes}
+use Rattle.base_fields.proofs.Between.{both, power_between_gives}
 use Rattle.base_fields.specs.Numbers.{IsPowerBetween}
-use Rattle.clap.specs.Walk.{Row, Text, first_of}
+use Rattle.clap.specs.Walk.{Row, Text, all_of, first_of}
 use Rattle.job_words.specs.Arguments.{is_between, is_power_between, number_or, numeral_of, passing, simple, taken, text_at}
-use Rattle.job_words.specs.Jobs.{arguments_of, block_of, copy_with, ends_differ, erase_block_of, expand_from, job_by, job_from, job_of}
+use Rattle.job_words.specs.Jobs.{are_pieces, arguments_of, block_of, copy_with, ends_differ, erase_block_of, expand_with, job_by, job_from, job_of}
 use Rattle.job_words.specs.Jobs.{nand_places_differ, nand_with, page_of, pairs_from, unit_of, window_of}
-use Rattle.job_words.specs.Ranges.{AreNandSizes, AreSteps, IsInRange, IsUnit}
+use Rattle.job_words.specs.Ranges.{AreNandSizes, IsInRange, IsWindow}
 use Rattle.job_words.specs.Verbs.{verb_named}
 use Rattle.job_words.specs.declared.jobs.Job.{Job}
 use Rattle.job_words.specs.declared.jobs.Job.TheVariants as job
 use Rattle.job_words.specs.declared.verbs.Verb.{Verb}
 use Rattle.job_words.specs.declared.verbs.Verb.TheVariants as verb
-use Rattle.job_words.proofs.Numerals.{both}
 
 -- ---- tests that a number passed
 
@@ -28,54 +29,59 @@ passes test m n same = at (test m) refl same
         none : None ≡ Some n → ⊥
         none e = cc
 
-numbered : (default : ℕ) (test : ℕ → Bool) (given : Option Text) (n : ℕ) → test default ≡ true
-    → number_or default test given ≡ Some n → test n ≡ true
-numbered default test None n fine got =
+-- what the default has and a number that passed the test has, the number of an option has
+numbered : (default : ℕ) (test : ℕ → Bool) (P : ℕ → Type 0) (given : Option Text) (n : ℕ) → P default
+    → ((m : ℕ) → test m ≡ true → P m) → number_or default test given ≡ Some n → P n
+numbered default test P None n usual gives got =
     let same : default ≡ n = cc in
-    subst (λ k. test k ≡ true) same fine
-numbered default test (Some text) n fine got = at (numeral_of text) got
+    subst P same usual
+numbered default test P (Some text) n usual gives got = at (numeral_of text) got
   where
-    at : (o : Option ℕ) → option_and_then (passing test) o ≡ Some n → test n ≡ true
+    at : (o : Option ℕ) → option_and_then (passing test) o ≡ Some n → P n
     at None e = absurd (none e)
       where
         none : None ≡ Some n → ⊥
         none e = cc
-    at (Some m) e = passes test m n e
-
-power_in : (least most n : ℕ) → is_power_between least most n ≡ true → IsPowerBetween least most n
-power_in least most n test =
-    let power = both _ _ test in
-    let bounds = both _ _ power.1 in
-    record {
-      power = subst IsTrue (sym power.0) tt;
-      not_below = leb-true least n bounds.0;
-      not_above = leb-true n most bounds.1;
-    }
+    at (Some m) e = gives n (passes test m n e)
 
 -- ---- the options
 
+usual_block : IsPowerBetween 512 65536 4096
+unfolding ones
+usual_block = record { power = refl; not_below = omega arith; not_above = omega arith }
+
+usual_erase_block : IsPowerBetween 1 4194304 131072
+unfolding ones
+usual_erase_block = record { power = refl; not_below = omega arith; not_above = omega arith }
+
+usual_page : IsPowerBetween 512 16384 2048
+unfolding ones
+usual_page = record { power = refl; not_below = omega arith; not_above = omega arith }
+
 block_in : (rows : List Row) (n : ℕ) → block_of rows ≡ Some n → IsPowerBetween 512 65536 n
 block_in rows n is =
-    power_in 512 65536 n (numbered 4096 (is_power_between 512 65536) (first_of (codes "block") rows) n refl is)
+    numbered 4096 (is_power_between 512 65536) (IsPowerBetween 512 65536) (first_of (codes "block") rows) n usual_block
+    (power_between_gives 512 65536) is
 
-unit_in : (rows : List Row) (n : ℕ) → unit_of rows ≡ Some n → IsUnit n
-unit_in rows n is =
-    power_in 65536 4194304 n
-    (numbered 1048576 (is_power_between 65536 4194304) (first_of (codes "unit") rows) n refl is)
-
-window_in : (rows : List Row) (unit n : ℕ) → IsUnit unit → window_of rows ≡ Some n → AreSteps unit n
-window_in rows unit n fine is =
-    let bounds = both _ _ (numbered 1 (is_between 1 16) (first_of (codes "window") rows) n refl is) in
-    record { sized = fine; some = leb-true 1 n bounds.0; few = leb-true n 16 bounds.1 }
+window_in : (rows : List Row) (n : ℕ) → window_of rows ≡ Some n → IsWindow n
+window_in rows n is =
+    numbered 1 (is_between 1 16) IsWindow (first_of (codes "window") rows) n (record { some = omega arith; few = omega arith })
+    at is
+  where
+    at : (m : ℕ) → is_between 1 16 m ≡ true → IsWindow m
+    at m h =
+        let bounds = both _ _ h in
+        record { some = leb-true 1 m bounds.0; few = leb-true m 16 bounds.1 }
 
 erase_block_in : (rows : List Row) (n : ℕ) → erase_block_of rows ≡ Some n → IsPowerBetween 1 4194304 n
 erase_block_in rows n is =
-    power_in 1 4194304 n
-    (numbered 131072 (is_power_between 1 4194304) (first_of (codes "block") rows) n refl is)
+    numbered 131072 (is_power_between 1 4194304) (IsPowerBetween 1 4194304) (first_of (codes "block") rows) n usual_erase_block
+    (power_between_gives 1 4194304) is
 
 page_in : (rows : List Row) (n : ℕ) → page_of rows ≡ Some n → IsPowerBetween 512 16384 n
 page_in rows n is =
-    power_in 512 16384 n (numbered 2048 (is_power_between 512 16384) (first_of (codes "page") rows) n refl is)
+    numbered 2048 (is_power_between 512 16384) (IsPowerBetween 512 16384) (first_of (codes "page") rows) n usual_page
+    (power_between_gives 512 16384) is
 
 -- ---- jobs that may not be there
 
@@ -120,25 +126,27 @@ from : (v : Verb) (rows : List Row) (j : Job) → job_from v rows ≡ Some j →
 from verb.Build rows j e = plain _ j tt e
 from verb.Map rows j e = mapped _ (block_of rows) j (block_in rows) e
 from verb.Copy rows j e =
-    where_it_holds (ends_differ rows) _ j (λ differ is. followed _ (unit_of rows) j (λ unit found then.
-    mapped (copy_with rows unit) (window_of rows) j (λ window wide. window_in rows unit window (unit_in rows unit found) wide)
-    then) is) e
+    where_it_holds (ends_differ rows) _ j (λ differ is. followed _ (unit_of rows) j (λ unit found rest.
+    mapped (copy_with rows unit) (window_of rows) j (window_in rows) rest) is) e
 from verb.Resume rows j e =
-    where_it_holds (ends_differ rows) _ j (λ differ is. mapped _ (unit_of rows) j (unit_in rows) is) e
+    where_it_holds (ends_differ rows) _ j (λ differ is. mapped _ (unit_of rows) j (λ unit found. tt) is) e
 from verb.Forget rows j e = plain _ j tt e
 from verb.Verify rows j e = where_it_holds _ _ j (λ differ is. plain _ j tt is) e
 from verb.List rows j e = plain _ j tt e
 from verb.Demo rows j e = mapped _ (numeral_of (text_at (codes "SEED") rows)) j (λ seed is. tt) e
 from verb.Gang rows j e =
-    followed _ (unit_of rows) j (λ unit found then. mapped _ (pairs_from rows) j (λ pairs is. unit_in rows unit found) then) e
+    followed _ (unit_of rows) j (λ unit found rest. mapped _ (pairs_from rows) j (λ pairs is. tt) rest) e
 from verb.GangResume rows j e =
-    followed _ (unit_of rows) j (λ unit found then. mapped _ (pairs_from rows) j (λ pairs is. unit_in rows unit found) then) e
+    followed _ (unit_of rows) j (λ unit found rest. mapped _ (pairs_from rows) j (λ pairs is. tt) rest) e
 from verb.Cut rows j e = mapped _ (numeral_of (text_at (codes "SIZE") rows)) j (λ size is. tt) e
-from verb.Expand rows j e = followed _ _ j (λ pieces all is. where_it_holds _ _ j (λ are then. plain _ j tt then) is) e
+from verb.Expand rows j e =
+    let out : Text = text_at (codes "OUT") rows in
+    followed (expand_with out) (all_of (codes "PIECES") rows) j (λ pieces all is.
+    where_it_holds (are_pieces out pieces) (Some (job.Expand out pieces)) j (λ are rest. plain (job.Expand out pieces) j tt rest) is) e
 from verb.Nand rows j e =
-    where_it_holds (nand_places_differ rows) _ j (λ differ is. followed _ (erase_block_of rows) j (λ block found then.
+    where_it_holds (nand_places_differ rows) _ j (λ differ is. followed _ (erase_block_of rows) j (λ block found rest.
     followed (nand_with rows block) (page_of rows) j (λ page sized last.
-    nand_in rows block page j (erase_block_in rows block found) (page_in rows page sized) last) then) is) e
+    nand_in rows block page j (erase_block_in rows block found) (page_in rows page sized) last) rest) is) e
 
 by_verb : (v : Verb) (words : List Text) (j : Job) → job_by v words ≡ Some j → IsInRange j
 unfolding job_by

@@ -1,4 +1,4 @@
--- The numbers of a job: each is in the range of its option.
+-- The blocks, pages and windows of a job: each is in the range of its option. Nothing is said of units here.
 use Rattle.std.specs.Prelude.{◌≡◌, ℕ, ◌≤◌, List, Some}
 use Rattle.base_fields.specs.Numbers.{IsPowerBetween}
 use Rattle.clap.specs.Walk.{Text}
@@ -6,13 +6,8 @@ use Rattle.job_words.specs.Jobs.{job_of}
 use Rattle.job_words.specs.declared.jobs.Job.{Job}
 use Rattle.job_words.specs.declared.jobs.Job.TheVariants as job
 
--- a unit of a copy, in bytes
-abbrev pub IsUnit : ℕ → Type 0
-IsUnit n = IsPowerBetween 65536 4194304 n
-
--- a unit, and how many of them may be under way
-pub record AreSteps (unit window : ℕ) : Type 0 where
-  pub sized : IsUnit unit
+-- how many units may be under way
+pub record IsWindow (window : ℕ) : Type 0 where
   pub some : 1 ≤ window
   pub few : window ≤ 16
 
@@ -25,18 +20,18 @@ pub record AreNandSizes (block page : ℕ) : Type 0 where
 abbrev pub IsInRange : Job → Type 0
 IsInRange (job.Build conf input output) = Unit {0}
 IsInRange (job.Map conf image out block input output) = IsPowerBetween 512 65536 block
-IsInRange (job.Copy source map target journal unit window sparse) = AreSteps unit window
-IsInRange (job.Resume source map target journal unit sparse) = IsUnit unit
+IsInRange (job.Copy source map target journal unit window sparse) = IsWindow window
+IsInRange (job.Resume source map target journal unit sparse) = Unit {0}
 IsInRange (job.Forget journal) = Unit {0}
 IsInRange (job.Verify map target) = Unit {0}
 IsInRange (job.List image) = Unit {0}
 IsInRange (job.Demo seed) = Unit {0}
-IsInRange (job.Gang source map pairs unit) = IsUnit unit
-IsInRange (job.GangResume source map pairs unit) = IsUnit unit
+IsInRange (job.Gang source map pairs unit) = Unit {0}
+IsInRange (job.GangResume source map pairs unit) = Unit {0}
 IsInRange (job.Cut image prefix size) = Unit {0}
 IsInRange (job.Expand out pieces) = Unit {0}
 IsInRange (job.Nand image device bad_list block page) = AreNandSizes block page
 
--- the job of words has its numbers in their ranges
+-- the job of words has them in their ranges
 abbrev pub JobsAreInRange : Type 0
 JobsAreInRange = (words : List Text) (j : Job) → job_of words ≡ Some j → IsInRange j
