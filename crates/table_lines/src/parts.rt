@@ -1,6 +1,6 @@
 //! The parts of the lines that numbers and truth values are not enough for.
-ghost use Rattle.std.specs.Prelude.{◌≡◌, ◌≢◌, ◌+◌, ◌*◌, ◌==◌, ◌≤◌, ◌++◌, length, map};
-ghost use Rattle.std.specs.List.{before_first};
+ghost use Rattle.std.specs.Prelude.{◌≡◌, ◌≢◌, ◌+◌, ◌==◌, ◌≤◌, ◌++◌, IfSome, length, map};
+ghost use Rattle.std.specs.List.{before_first, position};
 ghost use Rattle.base_fields.specs.declared.spans.TableKind.TheVariants as table;
 ghost use Rattle.hex.specs.Hex.{encode_lower};
 ghost use Rattle.line_parts.specs.Line.{spelled, with_fields};
@@ -95,12 +95,20 @@ fn shown_unit(unit: u16) -> u8
     }
 }
 
-// The units in front of the first that is zero.
+// The place of the first unit that is zero.
+fn first_zero(name: &[u16]) -> Option<usize>
+    ensures at { result ≡ position (λ unit. unit == 0) name.now }
+    ensures within { IfSome result (λ end. end ≤ length name.now) }
+{
+    name.iter().position(|unit| *unit == 0)
+}
+
+// The units in front of it.
 fn before_zero(name: &[u16]) -> &[u16]
     ensures units { result.now ≡ before_first (λ unit. unit == 0) name.now }
     ensures few { length result.now ≤ length name.now }
 {
-    match name.iter().position(|unit| *unit == 0) {
+    match first_zero(name) {
         Some(end) => &name[..end],
         None => name,
     }
