@@ -1,1 +1,3 @@
 -- lemmas
+pub mod LineLemmas
+pub mod TurnLemmas

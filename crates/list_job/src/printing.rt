@@ -51,7 +51,7 @@ fn print_tables<P: Printer>(tables: &Tables, out: &mut P) -> Result<(), PrintErr
 // The lines of the slots in use.
 fn print_slots<P: Printer>(slots: &[MbrEntry], out: &mut P) -> Result<(), PrintErr>
     requires { length slots.now ≤ 256 }
-    ensures prints { PrintsTurn (primary_lines 1 slots.now) (P.lines out.old) (P.lines out.new) (P.faults out.old) (P.faults out.new) result }
+    ensures prints { PrintsTurn (primary_lines slots.now) (P.lines out.old) (P.lines out.new) (P.faults out.old) (P.faults out.new) result }
     ensures none_fell { P.faults out.old ≤ P.faults out.new }
 {
     for (place, entry) in slots.iter().enumerate() {
@@ -62,7 +62,7 @@ fn print_slots<P: Printer>(slots: &[MbrEntry], out: &mut P) -> Result<(), PrintE
 
 fn print_logicals<P: Printer>(logical: &[MbrEntry], out: &mut P) -> Result<(), PrintErr>
     requires { length logical.now ≤ 256 }
-    ensures prints { PrintsTurn (logical_lines 5 logical.now) (P.lines out.old) (P.lines out.new) (P.faults out.old) (P.faults out.new) result }
+    ensures prints { PrintsTurn (logical_lines logical.now) (P.lines out.old) (P.lines out.new) (P.faults out.old) (P.faults out.new) result }
     ensures none_fell { P.faults out.old ≤ P.faults out.new }
 {
     for (place, entry) in logical.iter().enumerate() {

@@ -1,13 +1,10 @@
 //! What an image is listed by.
-ghost use Rattle.std.specs.Prelude.{◌≡◌, IfErr, IfOk, Ok, length};
-ghost use Rattle.base_fields.specs.Results.{◌>>=◌, or_else, refused_by};
+ghost use Rattle.std.specs.Prelude.{◌≡◌, ◌≤◌, IfErr, IfOk, Ok, length, take};
 ghost use Rattle.job_stages.specs.Stages.{Gives};
 ghost use Rattle.outside.specs.Counts.{NoneFell};
-ghost use Rattle.sparse_reader.specs.Sparse.{sparse_of};
-ghost use Rattle.table_reader.specs.Tables.{tables_of};
-ghost use Rattle.list_job.specs.Faults.{IsShown, is_counted, of_sparse, of_table};
-ghost use Rattle.list_job.specs.Listings.{IsListing, has_magic, listing_of};
-ghost use Rattle.list_job.specs.declared.listing.Listing.TheVariants as listing;
+ghost use Rattle.outside.specs.Files.{IsThere, bytes_of};
+ghost use Rattle.list_job.specs.Faults.{IsShown, is_counted};
+ghost use Rattle.list_job.specs.Listings.{HasLength, IsListing, listing_of, magic_of, sparse_listing, table_listing};
 
 use crate::{ListFault, Listing};
 use base_fields::get_u32;
@@ -44,26 +41,22 @@ fn is_sparse<F: Files>(files: &mut F, name: &str) -> Result<bool, ListFault>
     ensures none_fell { NoneFell (F.counts files.old) (F.counts files.new) }
     ensures cause { IfErr result (IsShown (F.counts files.old) (F.counts files.new)) }
     ensures same_files { F.file files.new ≡ F.file files.old }
-    ensures said { F.told → Gives is_counted (or_else (F.file files.old name.now) ListFault.Missing >>= (λ bytes. Ok (has_magic bytes))) (λ is. is) (λ fault. fault) result }
+    ensures said { F.told → Gives is_counted (magic_of (F.file files.old name.now)) (λ is. is) (λ fault. fault) result }
 {
     let len = length_of(files, name)?;
     if len < 4 {
         return Ok(false);
     }
-    let mut front = [0; 4];
-    match fill(files, name, 0, &mut front) {
-        Ok(()) => Ok(get_u32(&front, 0) == MAGIC),
-        Err(FillFault::Missing) => Err(ListFault::Missing),
-        Err(FillFault::Short { .. }) => Err(ListFault::Short { at: len }),
-        Err(FillFault::Failed) => Err(ListFault::FileFault),
-    }
+    let front = read_front(files, name, len)?;
+    Ok(get_u32(&front, 0) == MAGIC)
 }
 
+// How many bytes the file has.
 fn length_of<F: Files>(files: &mut F, name: &str) -> Result<u64, ListFault>
     ensures none_fell { NoneFell (F.counts files.old) (F.counts files.new) }
     ensures cause { IfErr result (IsShown (F.counts files.old) (F.counts files.new)) }
     ensures same_files { F.file files.new ≡ F.file files.old }
-    ensures said { F.told → Gives is_counted (or_else (F.file files.old name.now) ListFault.Missing >>= (λ bytes. Ok (length bytes))) (λ len. len) (λ fault. fault) result }
+    ensures said { F.told → HasLength (F.file files.old) name.now result }
 {
     match files.length(name) {
         Ok(len) => Ok(len),
@@ -72,12 +65,30 @@ fn length_of<F: Files>(files: &mut F, name: &str) -> Result<u64, ListFault>
     }
 }
 
+// The first four of so many bytes of a file.
+fn read_front<F: Files>(files: &mut F, name: &str, len: u64) -> Result<[u8; 4], ListFault>
+    requires long { 4 ≤ len }
+    requires there { F.told → IsThere (F.file files.old) name.now (len ≡ length (bytes_of (F.file files.old) name.now)) }
+    ensures none_fell { NoneFell (F.counts files.old) (F.counts files.new) }
+    ensures cause { IfErr result (IsShown (F.counts files.old) (F.counts files.new)) }
+    ensures same_files { F.file files.new ≡ F.file files.old }
+    ensures said { F.told → Gives is_counted (Ok (take 4 (bytes_of (F.file files.old) name.now))) (λ front. front) (λ fault. fault) result }
+{
+    let mut front = [0; 4];
+    match fill(files, name, 0, &mut front) {
+        Ok(()) => Ok(front),
+        Err(FillFault::Missing) => Err(ListFault::Missing),
+        Err(FillFault::Short { .. }) => Err(ListFault::Short { at: len }),
+        Err(FillFault::Failed) => Err(ListFault::FileFault),
+    }
+}
+
 fn list_sparse<F: Files>(files: &mut F, name: &str) -> Result<Listing, ListFault>
     ensures none_fell { NoneFell (F.counts files.old) (F.counts files.new) }
     ensures cause { IfErr result (IsShown (F.counts files.old) (F.counts files.new)) }
     ensures same_files { F.file files.new ≡ F.file files.old }
     ensures form { IfOk result IsListing }
-    ensures said { F.told → Gives is_counted (refused_by of_sparse (sparse_of (F.file files.old name.now)) >>= (λ view. Ok (listing.Sparse view))) (λ listing. listing) (λ fault. fault) result }
+    ensures said { F.told → Gives is_counted (sparse_listing (F.file files.old name.now)) (λ listing. listing) (λ fault. fault) result }
 {
     match read_sparse(files, name) {
         Ok(view) => Ok(Listing::Sparse(view)),
@@ -90,7 +101,7 @@ fn list_tables<F: Files>(alloc: Global, files: &mut F, name: &str) -> Result<Lis
     ensures cause { IfErr result (IsShown (F.counts files.old) (F.counts files.new)) }
     ensures same_files { F.file files.new ≡ F.file files.old }
     ensures form { IfOk result IsListing }
-    ensures said { F.told → Gives is_counted (refused_by of_table (tables_of (F.file files.old name.now)) >>= (λ tables. Ok (listing.Tables tables))) (λ listing. listing) (λ fault. fault) result }
+    ensures said { F.told → Gives is_counted (table_listing (F.file files.old name.now)) (λ listing. listing) (λ fault. fault) result }
 {
     match read_tables(alloc, files, name) {
         Ok(tables) => Ok(Listing::Tables(tables)),
