@@ -1,30 +1,11 @@
 -- The lines of one entry more.
-use Rattle.std.specs.Prelude.{◌≡◌, ◌≢◌, ℕ, zero, suc, ◌+◌, ◌<◌, ◌≤◌, List, [], ◌∷◌, ◌++◌, Option, None, Some, IfSome, drop, get_or, length, take}
-use Rattle.std.proofs.Common.{refl, ap, sym, subst, ◌∙◌, append_assoc, append-nil, arith}
+use Rattle.std.specs.Prelude.{◌≡◌, ℕ, zero, suc, ◌+◌, ◌<◌, ◌≤◌, List, [], ◌∷◌, ◌++◌, drop, get_or, length, take}
+use Rattle.std.proofs.Common.{refl, ap, sym, ◌∙◌, append_assoc, append-nil, arith}
 use Rattle.std.proofs.lemmas.List.{length-take-le, take-append-drop, take_all, take_more}
-use Rattle.base_fields.specs.declared.spans.TableKind.{TableKind}
-use Rattle.base_fields.specs.declared.spans.TableKind.TheVariants as table
-use Rattle.gpt_reading.specs.declared.tables.GptTable.{GptTable}
 use Rattle.gpt_table.specs.declared.entry.GptEntry.{GptEntry}
 use Rattle.mbr_table.specs.declared.mbr.MbrEntry.{MbrEntry}
 use Rattle.table_lines.specs.Lines.{entry_text}
-use Rattle.table_reader.specs.Tables.{HasGpt, IsGpt}
 use Rattle.list_job.specs.Printed.{entry_lines, lines_from}
-
--- ---- what a table has
-
-pub not_bare : (kind : TableKind) (gpt : Option GptTable) → HasGpt kind gpt → kind ≢ table.Bare
-not_bare table.Bare gpt has = λ is. has
-not_bare table.Mbr gpt has = λ is. cc
-not_bare table.Gpt gpt has = λ is. cc
-not_bare table.Hybrid gpt has = λ is. cc
-
-pub gpt_form : (kind : TableKind) (gpt : Option GptTable) → HasGpt kind gpt → IfSome gpt IsGpt
-gpt_form table.Gpt (Some gpt) has = has
-gpt_form table.Hybrid (Some gpt) has = has
-gpt_form kind None has = tt
-gpt_form table.Bare (Some gpt) has = absurd has
-gpt_form table.Mbr (Some gpt) has = absurd has
 
 -- ---- entries of a record
 
@@ -63,11 +44,6 @@ from_split lines n k m xs d below place =
     ∙ ap (λ (j : ℕ). lines_from lines n (take (k + 1) xs) ++ lines_from lines (n + j) behind) (sym long)
     ∙ sym (from_append lines n (take (k + 1) xs) behind)
     ∙ ap (lines_from lines n) (take-append-drop (k + 1) xs)
-
--- all of them
-pub from_all : (lines : ℕ → MbrEntry → List (List ℕ)) (n k : ℕ) (xs : List MbrEntry) → length xs ≤ k
-    → lines_from lines n (take k xs) ≡ lines_from lines n xs
-from_all lines n k xs past = ap (lines_from lines n) (take_all k xs past)
 
 -- ---- entries of a GUID partition table
 

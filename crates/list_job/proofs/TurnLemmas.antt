@@ -1,12 +1,10 @@
 -- Lines that are printed in turns.
-use Rattle.std.specs.Prelude.{◌≡◌, ℕ, ◌+◌, ◌<◌, ◌≤◌, List, [], ◌∷◌, ◌++◌, Option, Result, Ok, Err, OnOk, OnErr, drop, get_or, length, min, take}
-use Rattle.std.proofs.Common.{refl, ap, sym, subst, ◌∙◌, arith}
-use Rattle.std.proofs.Math.Seq.{take-append_seam}
+use Rattle.std.specs.Prelude.{◌≡◌, ℕ, ◌+◌, ◌<◌, ◌≤◌, List, [], ◌∷◌, ◌++◌, Option, Result, Ok, Err, drop, get_or, length, min, take}
+use Rattle.std.proofs.Common.{ap, sym, subst, ◌∙◌, arith}
 use Rattle.std.proofs.lemmas.List.{take_all, take_min, take-append-le}
 use Rattle.job_stages.proofs.PrintingLemmas.{fronts_join, lines_join}
 use Rattle.job_stages.specs.Printing.{Prints, PrintsFront, all_added}
 use Rattle.outside.specs.Counts.{Rose}
-use Rattle.outside.specs.Printer.{added}
 use Rattle.outside.specs.declared.printer.PrintErr.{PrintErr}
 use Rattle.gpt_table.specs.declared.entry.GptEntry.{GptEntry}
 use Rattle.mbr_table.specs.declared.mbr.MbrEntry.{MbrEntry}
@@ -23,19 +21,6 @@ front_more a b before now front =
       printed = n;
       same = front.same ∙ ap (all_added before) (sym (take-append-le n a b below ∙ take_min front.printed a));
     }
-
--- nothing is to be printed
-pub turn_none : (before : Option (List (List ℕ))) (faults : ℕ) (u : Unit {0}) → PrintsTurn [] before before faults faults (Ok u)
-turn_none before faults u = record { steady = refl; printed = refl; failed = tt; front = tt }
-
--- one line
-pub turn_line : (line : List ℕ) (before now : Option (List (List ℕ))) (faults_before faults_now : ℕ) (r : Result Unit PrintErr)
-    → OnOk r (faults_now ≡ faults_before) → OnOk r (now ≡ added before line) → OnErr r (Rose faults_before faults_now)
-    → OnErr r (now ≡ before) → PrintsTurn (line ∷ []) before now faults_before faults_now r
-turn_line line before now faults_before faults_now (Ok done) steady printed failed stays =
-    record { steady = steady; printed = printed; failed = tt; front = tt }
-turn_line line before now faults_before faults_now (Err failure) steady printed failed stays =
-    record { steady = tt; printed = tt; failed = failed; front = record { printed = 0; same = stays } }
 
 -- the same lines, spelled otherwise
 pub turn_same : (a b : List (List ℕ)) (before now : Option (List (List ℕ))) (faults_before faults_now : ℕ) (r : Result Unit PrintErr)

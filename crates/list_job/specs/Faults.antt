@@ -1,5 +1,5 @@
 -- Why an image is not listed.
-use Rattle.std.specs.Prelude.{◌≡◌, ◌≢◌, ℕ, ◌-◌, ◌^◌, ◌%◌, ◌<◌, Bool, true, false}
+use Rattle.std.specs.Prelude.{◌≡◌, ◌≢◌, ◌-◌, ◌^◌, ◌%◌, ◌<◌, Bool, true, false}
 use Rattle.outside.specs.Counts.{Counts, Rose}
 use Rattle.sparse_reader.specs.Header.{IsField}
 use Rattle.sparse_reader.specs.declared.fault.SparseFault.{SparseFault}

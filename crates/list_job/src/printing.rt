@@ -4,7 +4,7 @@ ghost use Rattle.answer_lines.specs.Lines.{sparse_text};
 ghost use Rattle.base_fields.specs.declared.spans.TableKind.TheVariants as table;
 ghost use Rattle.job_stages.specs.Printing.{Prints};
 ghost use Rattle.outside.specs.Counts.{Rose};
-ghost use Rattle.table_lines.specs.Lines.{entry_text, gpt_text, logical_text, primary_text, table_text};
+ghost use Rattle.table_lines.specs.Lines.{entry_text, gpt_text, logical_text, table_text};
 ghost use Rattle.table_reader.specs.Tables.{AreTables, IsGpt};
 ghost use Rattle.list_job.specs.Listings.{IsListing};
 ghost use Rattle.list_job.specs.Printed.{PrintsTurn, entry_lines, gpt_lines, listing_lines};

@@ -1,5 +1,5 @@
 -- The lengths of identifiers, and where a name ends.
-use Rattle.std.specs.Prelude.{◌≡◌, ℕ, Bool, true, false, List, Option, Some, None, cond, length, nat_lt, take}
+use Rattle.std.specs.Prelude.{◌≡◌, ℕ, Bool, true, false, List, Some, None, cond, length, nat_lt, take}
 use Rattle.std.specs.List.{before_first, position, position_or_len}
 use Rattle.std.proofs.Common.{◌∙◌, ap, refl, sym}
 use Rattle.std.proofs.lemmas.Bool.{ltb-false}
