@@ -1,0 +1,4 @@
+-- lemmas
+mod Chains
+mod Images
+mod Parts
