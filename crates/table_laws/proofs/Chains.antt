@@ -37,16 +37,16 @@ Leads image start sector (Some next) = (is_empty (link_at image sector) ≡ fals
 
 -- how a record is judged
 abbrev judged : Bool → Bool → Bool → Bool → BootRecord → BootRecord → Option BootRecord
-judged marked empty last later end more =
-    if not marked || empty then None else if last then Some end else if later then Some more else None
+judged marked empty last later final more =
+    if not marked || empty then None else if last then Some final else if later then Some more else None
 
-passes : (marked empty last later : Bool) (end more boot : BootRecord) → judged marked empty last later end more ≡ Some boot →
-    (marked ≡ true) × (empty ≡ false) × (((last ≡ true) × (end ≡ boot)) ⊎ ((last ≡ false) × (later ≡ true) × (more ≡ boot)))
-passes false empty last later end more boot h = absurd cc
-passes true true last later end more boot h = absurd cc
-passes true false true later end more boot h = (refl, refl, inl (refl, cc))
-passes true false false true end more boot h = (refl, refl, inr (refl, refl, cc))
-passes true false false false end more boot h = absurd cc
+passes : (marked empty last later : Bool) (final more boot : BootRecord) → judged marked empty last later final more ≡ Some boot →
+    (marked ≡ true) × (empty ≡ false) × (((last ≡ true) × (final ≡ boot)) ⊎ ((last ≡ false) × (later ≡ true) × (more ≡ boot)))
+passes false empty last later final more boot h = absurd cc
+passes true true last later final more boot h = absurd cc
+passes true false true later final more boot h = (refl, refl, inl (refl, cc))
+passes true false false true final more boot h = (refl, refl, inr (refl, refl, cc))
+passes true false false false final more boot h = absurd cc
 
 -- a record in a sector, by its first entry and what follows it
 abbrev record_at : (ℕ → ℕ) → ℕ → Option ℕ → BootRecord
@@ -95,7 +95,7 @@ record_found bytes start sector boot h =
     ]
 
 -- the record that a reader finds in a sector
-pub boot_found : (bytes : List ℕ) (start sector : ℕ) (boot : BootRecord) → boot_at bytes start sector ≡ Ok boot → FoundRecord (image_of bytes) start sector boot
+boot_found : (bytes : List ℕ) (start sector : ℕ) (boot : BootRecord) → boot_at bytes start sector ≡ Ok boot → FoundRecord (image_of bytes) start sector boot
 boot_found bytes start sector boot h =
     let step = bind_ok (part_of bytes (512 * sector) 512) (λ xs. or_else (boot_record_in start sector xs) (BadChain (512 * sector))) boot h in
     let same = (part_found bytes step.0 (512 * sector) 512 step.1).1 in
@@ -166,7 +166,7 @@ chained_by bytes start n sector e (Some next) entries smaller reads leads h =
     subst (λ (s : ℕ). Chained image start n s step.0) (sym leads.2) (smaller next step.0 step.1) in
     chained_more image start n sector e step.0 entries reads leads.0 later chained is
 
-pub chain_read : (bytes : List ℕ) (start n sector : ℕ) (entries : List MbrEntry) → logicals_from bytes start n sector ≡ Ok entries → Chained (image_of bytes) start n sector entries
+chain_read : (bytes : List ℕ) (start n sector : ℕ) (entries : List MbrEntry) → logicals_from bytes start n sector ≡ Ok entries → Chained (image_of bytes) start n sector entries
 unfolding logicals_from
 chain_read bytes start zero sector entries h = absurd cc
 chain_read bytes start (suc n) sector entries h =
@@ -175,7 +175,7 @@ chain_read bytes start (suc n) sector entries h =
     let found = boot_found bytes start sector step.0 step.1 in
     chained_by bytes start n sector step.0.logical step.0.next entries (λ s es. chain_read bytes start n s es) found.reads found.leads step.2
 
-pub chain_given : (bytes : List ℕ) (start n sector : ℕ) (e : MbrEntry) (rest : List MbrEntry) → ChainFrom (image_of bytes) start sector (e ∷ rest) → suc (length rest) ≤ n →
+chain_given : (bytes : List ℕ) (start n sector : ℕ) (e : MbrEntry) (rest : List MbrEntry) → ChainFrom (image_of bytes) start sector (e ∷ rest) → suc (length rest) ≤ n →
     logicals_from bytes start n sector ≡ Ok (e ∷ rest)
 unfolding logicals_from
 chain_given bytes start zero sector e rest chain few = absurd (omega arith)

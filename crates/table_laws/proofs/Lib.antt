@@ -1,4 +1,11 @@
 -- lemmas
+mod Backups
 mod Chains
+mod Guid
+mod Halves
+mod Headers
 mod Images
+mod Layouts
 mod Parts
+mod Tables
+mod Used

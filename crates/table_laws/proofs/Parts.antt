@@ -33,17 +33,20 @@ length-part bytes at n within =
     let left = length-drop at bytes in
     length-take-le n (drop at bytes) (omega (arith, left, within))
 
+pub byte_in : (bytes : List ℕ) (at n o : ℕ) → o < n → image_of (part bytes at n) o ≡ image_of bytes (at + o)
+byte_in bytes at n o inside = get_or-take n (drop at bytes) o 0 inside ∙ get_or-drop at bytes o 0
+
 -- a part has the bytes of the file
 pub same_part : (bytes : List ℕ) (at n : ℕ) → Same (image_of (part bytes at n)) (image_of bytes) 0 at n
 same_part bytes at n j inside =
     let here : 0 + j ≡ j = omega arith in
-    ap (image_of (part bytes at n)) here ∙ get_or-take n (drop at bytes) j 0 inside ∙ get_or-drop at bytes j 0
+    ap (image_of (part bytes at n)) here ∙ byte_in bytes at n j inside
 
 -- from an offset of its own on
 pub same_within : (bytes : List ℕ) (at n o w : ℕ) → o + w ≤ n → Same (image_of (part bytes at n)) (image_of bytes) o (at + o) w
 same_within bytes at n o w within j inside =
     let there : at + (o + j) ≡ at + o + j = omega arith in
-    get_or-take n (drop at bytes) (o + j) 0 (omega arith) ∙ get_or-drop at bytes (o + j) 0 ∙ ap (image_of bytes) there
+    byte_in bytes at n (o + j) (omega arith) ∙ ap (image_of bytes) there
 
 -- what isn't zero stands in front of the end
 pub stands_inside : (bytes : List ℕ) (o : ℕ) → (image_of bytes o ≡ 0 → ⊥) → o < length bytes
@@ -61,14 +64,11 @@ marked_inside bytes o marked =
     let inside = stands_inside bytes (o + 511) (λ none. let no : 0 ≡ 0xAA = sym none ∙ last in absurd (omega (arith, no))) in
     omega (arith, inside)
 
-byte_there : (bytes : List ℕ) (at o : ℕ) → o < 512 → image_of (part bytes at 512) o ≡ image_of bytes (at + o)
-byte_there bytes at o inside = get_or-take 512 (drop at bytes) o 0 inside ∙ get_or-drop at bytes o 0
-
 pub marked_found : (bytes : List ℕ) (at : ℕ) → is_marked (part bytes at 512) ≡ true → IsMarked (image_of bytes) at
 marked_found bytes at h =
     let both = and_parts _ _ h in
-    (sym (byte_there bytes at 510 (omega arith)) ∙ eqb-true _ _ both.0, sym (byte_there bytes at 511 (omega arith)) ∙ eqb-true _ _ both.1)
+    (sym (byte_in bytes at 512 510 (omega arith)) ∙ eqb-true _ _ both.0, sym (byte_in bytes at 512 511 (omega arith)) ∙ eqb-true _ _ both.1)
 
 pub marked_there : (bytes : List ℕ) (at : ℕ) → IsMarked (image_of bytes) at → is_marked (part bytes at 512) ≡ true
 marked_there bytes at marked =
-    and_from _ _ (eq-eqb _ _ (byte_there bytes at 510 (omega arith) ∙ marked.0)) (eq-eqb _ _ (byte_there bytes at 511 (omega arith) ∙ marked.1))
+    and_from _ _ (eq-eqb _ _ (byte_in bytes at 512 510 (omega arith) ∙ marked.0)) (eq-eqb _ _ (byte_in bytes at 512 511 (omega arith) ∙ marked.1))
