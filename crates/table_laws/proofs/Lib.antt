@@ -7,5 +7,6 @@ mod Headers
 mod Images
 mod Layouts
 mod Parts
+mod Recognised
 mod Tables
 mod Used
