@@ -1,6 +1,6 @@
 -- A backup is that of the table in front where a reader finds no difference, and the other way round.
-use Rattle.std.specs.Prelude.{◌≡◌, ◌≢◌, ℕ, ◌+◌, ◌-◌, ◌*◌, ◌/◌, ◌%◌, ◌<◌, ◌≤◌, ◌==◌, ◌&&◌, not, nat_lt, List, [], ◌∷◌, cond, get_or, length, Bool, true, false, Option, None, Some, option_map, if◌then◌else◌}
-use Rattle.std.specs.List.{position, position_or_len, zip}
+use Rattle.std.specs.Prelude.{◌≡◌, ℕ, ◌+◌, ◌-◌, ◌*◌, ◌/◌, ◌%◌, ◌<◌, ◌≤◌, ◌==◌, not, nat_lt, List, [], ◌∷◌, cond, get_or, length, Bool, true, false, Option, None, Some, option_map}
+use Rattle.std.specs.List.{position_or_len, zip}
 use Rattle.std.proofs.Common.{refl, ap, sym, ◌∙◌, arith, inl, inr}
 use Rattle.std.proofs.lemmas.Bool.{and_from, and_parts, cases_lt, eq-eqb, eqb-true, le-ltb, ltb-false}
 use Rattle.std.proofs.lemmas.List.{ext_get_or}
@@ -11,7 +11,6 @@ use Rattle.gpt_reading.specs.Differences.{agreements, first_unlike}
 use Rattle.table_reading.specs.Header.{first_unmet, said}
 use Rattle.table_reading.specs.Recognised.{image_of}
 use Rattle.table_reader.specs.Halves.{Half, entries_at, or_entry, unlike}
-use Rattle.table_reader.specs.declared.fault.TableFault.{TableFault}
 use Rattle.table_reader.specs.declared.fault.TableFault.TheVariants.{BadGpt}
 use Rattle.table_laws.specs.ReadAs.{AreBytes}
 use Rattle.table_laws.proofs.Headers.{all_met, none_mapped, none_unmet, said_there}
@@ -138,13 +137,17 @@ agree_there bytes front back agree =
     let place : (o : ℕ) → o + 56 + 8 ≡ o + 64 = λ o. omega arith in
     let second : number_at image (back + 64) 8 ≡ number_at image (front + 64) 8 =
     ap (λ (o : ℕ). number_at image o 8) (sym (place back))
-        ∙ same_number image image (back + 56 + 8) (front + 56 + 8) 8 (shifted image image (back + 56) (front + 56) 16 8 8 (omega arith) same)
-        ∙ ap (λ (o : ℕ). number_at image o 8) (place front) in
+    ∙ same_number image image (back + 56 + 8) (front + 56 + 8) 8 (shifted image image (back + 56) (front + 56) 16 8 8 (omega arith) same)
+    ∙ ap (λ (o : ℕ). number_at image o 8) (place front) in
     none_unmet (agreements (part bytes front 92) (part bytes back 92)) (
       say_there bytes front back 40 (omega arith) agree.first_usable,
-      (say_there bytes front back 48 (omega arith) agree.last_usable,
-      (and_from (heads_say bytes front back 56) (heads_say bytes front back 64) (say_there bytes front back 56 (omega arith) first) (say_there bytes front back 64 (omega arith) second),
-      tt))
+      (
+        say_there bytes front back 48 (omega arith) agree.last_usable,
+        (
+          and_from (heads_say bytes front back 56) (heads_say bytes front back 64) (say_there bytes front back 56 (omega arith) first) (say_there bytes front back 64 (omega arith) second),
+          tt,
+        ),
+      ),
     )
 
 -- ---- both

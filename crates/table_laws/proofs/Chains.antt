@@ -1,11 +1,10 @@
 -- The partitions that the links of an image give are those that a reader finds by them.
-use Rattle.std.specs.Prelude.{◌≡◌, ◌≢◌, ℕ, zero, suc, ◌+◌, ◌*◌, ◌%◌, ◌^◌, ◌<◌, ◌≤◌, ◌⊎◌, ◌||◌, not, nat_lt, List, [], ◌∷◌, length, Bool, true, false, Option, None, Some, Result, Ok, Err, if◌then◌else◌}
+use Rattle.std.specs.Prelude.{◌≡◌, ℕ, zero, suc, ◌+◌, ◌*◌, ◌%◌, ◌^◌, ◌<◌, ◌≤◌, ◌⊎◌, ◌||◌, not, nat_lt, List, [], ◌∷◌, length, Bool, true, false, Option, None, Some, Ok, if◌then◌else◌}
 use Rattle.std.proofs.Common.{refl, ap, sym, subst, ◌∙◌, arith, inl, inr}
 use Rattle.std.proofs.lemmas.Bool.{lt-ltb, ltb-true}
 use Rattle.base_fields.specs.Results.{◌>>=◌, or_else}
 use Rattle.base_fields.proofs.Binds.{bind_ok, or_else_ok}
 use Rattle.mbr_table.specs.Mbr.{is_empty}
-use Rattle.mbr_table.specs.Reading.{slot_at}
 use Rattle.mbr_table.specs.declared.mbr.MbrEntry.{MbrEntry}
 use Rattle.extended_chain.specs.ChainReading.{ChainFrom, ChainReads, RecordReads, link_at, own_at}
 use Rattle.table_reading.specs.Recognised.{image_of, is_marked}
@@ -13,7 +12,6 @@ use Rattle.table_reading.specs.Record.{boot_record, boot_record_in, link_in, log
 use Rattle.table_reading.specs.declared.record.BootRecord.{BootRecord}
 use Rattle.table_reader.specs.Chain.{boot_at, chain_of, followed, logicals_from}
 use Rattle.table_reader.specs.Parts.{part_of}
-use Rattle.table_reader.specs.declared.fault.TableFault.{TableFault}
 use Rattle.table_reader.specs.declared.fault.TableFault.TheVariants.{BadChain}
 use Rattle.table_laws.proofs.Images.{same_mbr_slot}
 use Rattle.table_laws.proofs.Parts.{marked_found, marked_inside, marked_there, part, part_found, part_there, same_within}
@@ -82,7 +80,7 @@ record_found bytes start sector boot h =
     let found = part bytes (512 * sector) 512 in
     let link = link_same bytes sector in
     let all = passes (is_marked found) (is_empty (own_in found)) (is_empty (link_in found)) (nat_lt sector (start + (link_in found).first))
-        (boot_record (logical_in sector found) None) (boot_record (logical_in sector found) (Some (start + (link_in found).first))) boot h in
+    (boot_record (logical_in sector found) None) (boot_record (logical_in sector found) (Some (start + (link_in found).first))) boot h in
     elim all.2 [
       | inl last ↦ found_at bytes start sector None boot all.0 all.1 last.1 (subst (λ (e : MbrEntry). is_empty e ≡ true) link last.0)
       | inr more ↦
@@ -171,7 +169,7 @@ unfolding logicals_from
 chain_read bytes start zero sector entries h = absurd cc
 chain_read bytes start (suc n) sector entries h =
     let step = bind_ok (boot_at bytes start sector)
-        (λ boot. followed (logicals_from bytes start n) boot.next >>= λ rest. Ok (boot.logical ∷ rest)) entries h in
+    (λ boot. followed (logicals_from bytes start n) boot.next >>= λ rest. Ok (boot.logical ∷ rest)) entries h in
     let found = boot_found bytes start sector step.0 step.1 in
     chained_by bytes start n sector step.0.logical step.0.next entries (λ s es. chain_read bytes start n s es) found.reads found.leads step.2
 

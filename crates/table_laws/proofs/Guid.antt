@@ -1,14 +1,13 @@
 -- A GUID partition table that a reader finds is one that the image has, and the other way round.
-use Rattle.std.specs.Prelude.{◌≡◌, ◌≢◌, ℕ, ◌+◌, ◌*◌, ◌<◌, ◌==◌, List, map, length, Bool, true, false, Option, None, Some, Result, Ok, Err, if◌then◌else◌}
+use Rattle.std.specs.Prelude.{◌≡◌, ◌≢◌, ℕ, ◌+◌, ◌*◌, ◌<◌, ◌==◌, List, map, length, Bool, true, false, Option, None, Result, Ok, if◌then◌else◌}
 use Rattle.std.proofs.Common.{refl, ap, sym, subst, ◌∙◌, arith, inl, inr}
 use Rattle.std.proofs.lemmas.Bool.{cases_eq, eq-eqb, ne_eqb}
-use Rattle.base_fields.specs.Fields.{number_at}
 use Rattle.base_fields.specs.Results.{◌>>=◌}
 use Rattle.base_fields.proofs.Binds.{bind_ok}
 use Rattle.gpt_table.specs.Reading.{ReadsBackup, ReadsGpt, ReadsHeader, header_at, slot_at}
 use Rattle.gpt_table.specs.declared.entry.GptEntry.{GptEntry}
 use Rattle.gpt_table.specs.declared.header.GptHeader.{GptHeader}
-use Rattle.gpt_reading.specs.Used.{slot_in, table_of, used_below}
+use Rattle.gpt_reading.specs.Used.{slot_in, table_of}
 use Rattle.gpt_reading.specs.declared.tables.GptTable.{GptTable}
 use Rattle.table_reading.specs.Header.{said}
 use Rattle.table_reading.specs.Recognised.{image_of}
@@ -19,8 +18,8 @@ use Rattle.table_laws.specs.ReadAs.{AreBytes, used_of}
 use Rattle.table_laws.proofs.Backups.{AreAlike, alike_found, alike_there}
 use Rattle.table_laws.proofs.Halves.{FoundHalf, HasEntries, entries_from, half_at, half_found, half_there, has_of, header_from, place_of, reads_from, right_of, slots_from}
 use Rattle.table_laws.proofs.Headers.{IsRight, said_there, unless_ok}
-use Rattle.table_laws.proofs.Images.{same_guid, same_slot, shifted}
-use Rattle.table_laws.proofs.Parts.{part, same_part, same_within}
+use Rattle.table_laws.proofs.Images.{same_guid, same_slot}
+use Rattle.table_laws.proofs.Parts.{part, same_within}
 use Rattle.table_laws.proofs.Used.{entries_same, used_same}
 
 -- ---- the table of the front half

@@ -1,26 +1,22 @@
 -- A header that has no fault is one that the image has, and the other way round.
-use Rattle.std.specs.Prelude.{◌≡◌, ◌≢◌, ℕ, zero, suc, ◌+◌, ◌*◌, ◌<◌, ◌≤◌, ◌==◌, ◌||◌, not, List, [], ◌∷◌, ◌++◌, codes, get_or, length, replicate, take, drop, slice_index, Bool, true, false, Option, None, Some, option_map, Result, Ok, Err, if◌then◌else◌}
+use Rattle.std.specs.Prelude.{◌≡◌, ◌≢◌, ℕ, zero, suc, ◌+◌, ◌*◌, ◌<◌, ◌≤◌, ◌==◌, ◌||◌, not, List, [], ◌∷◌, ◌++◌, codes, get_or, length, replicate, take, drop, Bool, true, false, Option, None, Some, option_map, Ok, if◌then◌else◌}
 use Rattle.std.proofs.Common.{refl, ap, sym, ◌∙◌, arith, lit<}
-use Rattle.std.proofs.lemmas.Bool.{eq-eqb, eqb-false, eqb-true, ne_eqb, not-true, not_from_false, or_cases, or_right}
+use Rattle.std.proofs.lemmas.Bool.{eq-eqb, eqb-false, eqb-true, ne_eqb, not-true, not_from_false}
 use Rattle.std.proofs.lemmas.List.{get_or-drop, get_or-take, length-drop, length-take-le}
 use Rattle.base_fields.specs.Crc.{crc32_of}
 use Rattle.base_fields.specs.Fields.{number_at}
-use Rattle.base_fields.specs.Results.{◌>>=◌}
 use Rattle.base_fields.proofs.Binds.{bind_ok}
 use Rattle.base_fields.proofs.Images.{same_number}
-use Rattle.gpt_table.specs.Reading.{header_at}
 use Rattle.gpt_table.specs.Span.{bytes_at}
-use Rattle.gpt_table.specs.declared.header.GptHeader.{GptHeader}
 use Rattle.gpt_table.proofs.Spans.{bytes_at-is, get_or-bytes_at}
-use Rattle.table_reading.specs.Header.{Demand, bad_sum, demands, fault_of, first_unmet, or_sum, said, sum_of}
+use Rattle.table_reading.specs.Header.{Demand, demands, fault_of, first_unmet, or_sum, said, sum_of}
 use Rattle.table_reading.specs.Recognised.{image_of}
-use Rattle.table_reading.specs.declared.header.HeaderFault.{HeaderFault}
 use Rattle.table_reading.specs.declared.header.HeaderFault.TheVariants as fault
 use Rattle.table_reader.specs.Halves.{header_of, refusal_at}
 use Rattle.table_reader.specs.Parts.{part_of, unless}
 use Rattle.table_reader.specs.declared.fault.TableFault.{TableFault}
 use Rattle.table_laws.specs.ReadAs.{AreBytes}
-use Rattle.table_laws.proofs.Images.{fewer, number_bytes, same_guid}
+use Rattle.table_laws.proofs.Images.{fewer, number_bytes}
 use Rattle.table_laws.proofs.Parts.{byte_in, length-part, part, part_found, part_there, same_part, same_within}
 
 -- ---- nothing is at fault
@@ -113,12 +109,12 @@ sum_there bytes o within =
     let long = length-part bytes o 92 within in
     let front : bytes_at image o 16 ≡ take 16 head =
     bytes_at-is image o 16 (take 16 head) (length-take-le 16 head (omega (arith, long)))
-        (λ i h. sym (get_or-take 16 head i 0 h ∙ byte_in bytes o 92 i (omega arith))) in
+    (λ i h. sym (get_or-take 16 head i 0 h ∙ byte_in bytes o 92 i (omega arith))) in
     let behind : length (drop 20 head) ≡ 72 = let left = length-drop 20 head in omega (arith, left, long) in
     let back : bytes_at image (o + 20) 72 ≡ drop 20 head =
     bytes_at-is image (o + 20) 72 (drop 20 head) behind
-        (λ i h. let place : o + (20 + i) ≡ o + 20 + i = omega arith in
-        sym (get_or-drop 20 head i 0 ∙ byte_in bytes o 92 (20 + i) (omega arith) ∙ ap image place)) in
+    (λ i h. let place : o + (20 + i) ≡ o + 20 + i = omega arith in
+    sym (get_or-drop 20 head i 0 ∙ byte_in bytes o 92 (20 + i) (omega arith) ∙ ap image place)) in
     ap (λ (xs : List ℕ). crc32_of (xs ++ (replicate 4 0 ++ drop 20 head))) (sym front)
     ∙ ap (λ (xs : List ℕ). crc32_of (bytes_at image o 16 ++ (replicate 4 0 ++ xs))) (sym back)
 
@@ -186,15 +182,31 @@ right_there bytes o own is_backup right =
     let other = said_there bytes o 32 8 (omega arith) in
     let met : AllMet (demands own is_backup head) = (
       eq-eqb _ _ (said_first bytes o ∙ text_said image o 8 (codes "EFI PART") right.signature),
-      (said_so bytes o 8 4 0x00010000 (omega arith) (text_said image (o + 8) 4 version right.revision),
-      (said_so bytes o 12 4 92 (omega arith) right.size,
-      (said_so bytes o 20 4 0 (omega arith) right.reserved,
-      (said_so bytes o 24 8 own (omega arith) right.own_there,
-      (other_met is_backup (said head 32 8) (λ is. other ∙ right.other_there is),
-      (not_from_false (said head 72 8 == 0) (ne_eqb _ _ (λ none. right.has_entries (sym entries ∙ none))),
-      (said_so bytes o 80 4 128 (omega arith) right.slot_count,
-      (said_so bytes o 84 4 128 (omega arith) right.slot_size,
-      tt))))))))
+      (
+        said_so bytes o 8 4 0x00010000 (omega arith) (text_said image (o + 8) 4 version right.revision),
+        (
+          said_so bytes o 12 4 92 (omega arith) right.size,
+          (
+            said_so bytes o 20 4 0 (omega arith) right.reserved,
+            (
+              said_so bytes o 24 8 own (omega arith) right.own_there,
+              (
+                other_met is_backup (said head 32 8) (λ is. other ∙ right.other_there is),
+                (
+                  not_from_false (said head 72 8 == 0) (ne_eqb _ _ (λ none. right.has_entries (sym entries ∙ none))),
+                  (
+                    said_so bytes o 80 4 128 (omega arith) right.slot_count,
+                    (
+                      said_so bytes o 84 4 128 (omega arith) right.slot_size,
+                      tt,
+                    ),
+                  ),
+                ),
+              ),
+            ),
+          ),
+        ),
+      ),
     ) in
     let none = none_unmet (demands own is_backup head) met in
     let same : (said head 16 4 == sum_of head) ≡ true =

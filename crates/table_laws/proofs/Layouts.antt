@@ -1,11 +1,11 @@
 -- An image whose tables read back as those of a layout is read as these.
-use Rattle.std.specs.Prelude.{◌≡◌, ◌≢◌, ℕ, suc, ◌+◌, ◌*◌, ◌⊎◌, List, [], ◌∷◌, length, map, slice_index_or, Bool, true, false, Option, None, Some, option_map, IsSomeAnd, Ok, if◌then◌else◌}
+use Rattle.std.specs.Prelude.{◌≡◌, ◌≢◌, ℕ, List, [], ◌∷◌, length, map, slice_index_or, Bool, true, false, Option, None, Some, option_map, IsSomeAnd, Ok, if◌then◌else◌}
 use Rattle.std.specs.List.{list_all}
-use Rattle.std.proofs.Common.{refl, ap, sym, subst, ◌∙◌, arith, inl, inr}
+use Rattle.std.proofs.Common.{refl, ap, sym, subst, ◌∙◌, arith}
 use Rattle.base_fields.specs.declared.spans.TableKind.{TableKind}
 use Rattle.base_fields.specs.declared.spans.TableKind.TheVariants as table
 use Rattle.mbr_table.specs.Mbr.{is_empty, no_entry}
-use Rattle.mbr_table.specs.Reading.{MbrFits, ReadsMbr, slot_at}
+use Rattle.mbr_table.specs.Reading.{MbrFits, ReadsMbr}
 use Rattle.mbr_table.specs.declared.mbr.MbrEntry.{MbrEntry}
 use Rattle.mbr_table.specs.declared.mbr.MbrSpec.{MbrSpec}
 use Rattle.extended_chain.specs.ChainReading.{logical_entry}
@@ -21,13 +21,13 @@ use Rattle.table_reading.specs.Recognised.{image_of}
 use Rattle.table_reading.specs.Sector.{sector_of}
 use Rattle.table_reader.specs.Tables.{tables_in}
 use Rattle.table_reader.specs.declared.tables.Tables.{Tables}
-use Rattle.image_layout.specs.IsLayout.{IsHybrid, IsLayout, IsMbr, IsProtected, IsTabled, extended_slot}
+use Rattle.image_layout.specs.IsLayout.{IsHybrid, IsMbr, IsProtected, IsTabled, extended_slot}
 use Rattle.image_layout.specs.ReadsBack.{ReadsAs}
 use Rattle.image_layout.specs.declared.layout.Layout.{Layout}
 use Rattle.image_layout.proofs.Tables.{IsBeside, beside_hybrid, beside_protected, both_there}
-use Rattle.table_laws.specs.Laws.{IsDistinct, IsRecognised, LayoutsAreRead, LayoutsReadAs, kind_for, slot_for, tables_for, whole_for}
+use Rattle.table_laws.specs.Laws.{IsDistinct, IsRecognised, LayoutsAreRead, LayoutsReadAs, kind_for, slot_for, whole_for}
 use Rattle.table_laws.specs.ReadAs.{AreBytes, AreLogical, Guid, ReadAs, ReadsGuid, Slots, Whole, extended_in, four_slots, used_of}
-use Rattle.table_laws.proofs.Recognised.{HasHeaders, layouts_are_recognised, nothing_or, with_both}
+use Rattle.table_laws.proofs.Recognised.{HasHeaders, layouts_are_recognised, with_both}
 use Rattle.table_laws.proofs.Tables.{read_so, tables_with}
 
 -- ---- with what the layout has
@@ -92,10 +92,10 @@ mbr_listed : (l : Layout) (bytes : List ℕ) (spec : MbrSpec) → AreBytes bytes
 mbr_listed l bytes spec small is mbr chain shown =
     let logical = map logical_entry l.logical in
     let read = read_so bytes table.Mbr (slot_for l.logical spec) 512 (Slots spec logical) small shown.kind_is (shown.slot_is refl) refl
-        (mbr, logical_by (image_of bytes) spec l.logical chain) in
+    (mbr, logical_by (image_of bytes) spec l.logical chain) in
     let there : tables_with table.Mbr spec.signature (four_slots spec) logical None 512 ≡ tables_by table.Mbr l l.gpt spec =
     same_tables table.Mbr table.Mbr spec.signature (four_slots spec) spec.entries logical logical None (table_for l.gpt) 512 l.sector
-        refl (four_entries spec.entries is.fits.four) refl (sym (ap table_for is.gpt)) (sym is.sector) in
+    refl (four_entries spec.entries is.fits.four) refl (sym (ap table_for is.gpt)) (sym is.sector) in
     read ∙ ap Ok there
 
 records_listed : (l : Layout) (bytes : List ℕ) (mbr : Option MbrSpec) → AreBytes bytes → IsSomeAnd mbr (IsMbr l) → IsSomeAnd mbr (λ spec. ReadsMbr (image_of bytes) spec × ReadsChain (image_of bytes) l spec) →
@@ -114,7 +114,7 @@ guid_listed kind l bytes spec g small is shown reads =
     let read = read_so bytes (kind_for kind l) (extended_in bytes) l.sector whole small shown.kind_is refl sector reads in
     let there : tables_with (kind_for kind l) spec.signature (four_slots spec) [] gpt l.sector ≡ tables_by (kind_for kind l) l (Some g) spec =
     same_tables (kind_for kind l) (kind_for kind l) spec.signature (four_slots spec) spec.entries [] (map logical_entry l.logical) gpt gpt l.sector l.sector
-        refl (four_entries spec.entries fits.four) (sym (ap (map logical_entry) is.guid.logical)) refl refl in
+    refl (four_entries spec.entries fits.four) (sym (ap (map logical_entry) is.guid.logical)) refl refl in
     read ∙ ap Ok there
 
 -- what reads as one kind of these reads as the other

@@ -18,12 +18,12 @@ use Rattle.hybrid_table.specs.Hybrid.{hybrid_spec}
 use Rattle.table_reading.specs.Header.{said, signature}
 use Rattle.table_reading.specs.Recognised.{extended_slot as slot_recognised, image_of, is_extended, kind_of}
 use Rattle.table_reading.specs.Sector.{begins_header, sector_of, sector_of_header}
-use Rattle.image_layout.specs.IsLayout.{IsChain, IsHybrid, IsLayout, IsMbr, IsProtected, IsTabled, extended_slot}
+use Rattle.image_layout.specs.IsLayout.{IsChain, IsHybrid, IsMbr, IsProtected, IsTabled, extended_slot}
 use Rattle.image_layout.specs.ReadsBack.{ReadsAs}
 use Rattle.image_layout.specs.declared.layout.Layout.{Layout}
-use Rattle.image_layout.proofs.Tables.{IsBeside, beside_hybrid, beside_protected}
+use Rattle.image_layout.proofs.Tables.{beside_hybrid, beside_protected}
 use Rattle.table_laws.specs.Laws.{HasPlainSlots, IsDistinct, IsPlain, IsRecognised, LayoutsAreRecognised, ShowsSector, kind_for, slot_for}
-use Rattle.table_laws.specs.ReadAs.{extended_in, kind_in, sector_in}
+use Rattle.table_laws.specs.ReadAs.{kind_in}
 use Rattle.table_laws.proofs.Headers.{text_said}
 
 -- ---- the slot of the extended partition

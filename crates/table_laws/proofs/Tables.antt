@@ -1,5 +1,5 @@
 -- Tables that a reader answers are those of the bytes, and the other way round.
-use Rattle.std.specs.Prelude.{◌≡◌, ◌≢◌, ℕ, zero, suc, ◌+◌, ◌-◌, ◌*◌, ◌<◌, ◌≤◌, ◌⊎◌, ◌==◌, ◌&&◌, List, [], ◌∷◌, length, Bool, true, false, Option, None, Some, Result, Ok, Err, if◌then◌else◌}
+use Rattle.std.specs.Prelude.{◌≡◌, ◌≢◌, ℕ, zero, suc, ◌+◌, ◌-◌, ◌*◌, ◌<◌, ◌≤◌, ◌⊎◌, ◌==◌, ◌&&◌, List, [], ◌∷◌, Bool, true, false, Option, None, Some, Result, Ok, Err, if◌then◌else◌}
 use Rattle.std.proofs.Common.{refl, ap, sym, subst, ◌∙◌, arith, inl, inr, lit<, lit≤}
 use Rattle.std.proofs.lemmas.Bool.{ne_eqb}
 use Rattle.base_fields.specs.Results.{◌>>=◌, or_else}
@@ -19,14 +19,14 @@ use Rattle.table_reading.specs.Sector.{sector_of}
 use Rattle.table_reader.specs.Chain.{chain_of, logical_of}
 use Rattle.table_reader.specs.Halves.{gpt_of}
 use Rattle.table_reader.specs.Parts.{part_of}
-use Rattle.table_reader.specs.Tables.{chain_beside, gpt_beside, gpt_tables, mbr_tables, tables_beside, tables_in}
+use Rattle.table_reader.specs.Tables.{gpt_tables, mbr_tables, tables_beside, tables_in}
 use Rattle.table_reader.specs.declared.fault.TableFault.{TableFault}
 use Rattle.table_reader.specs.declared.fault.TableFault.TheVariants.{NoTable}
 use Rattle.table_reader.specs.declared.tables.Tables.{Tables}
 use Rattle.table_laws.specs.Laws.{TablesAreOne, TablesAreReadAs, TablesOrRefusal}
 use Rattle.table_laws.specs.ReadAs.{AreBytes, AreLogical, AreTablesOf, Guid, ReadAs, ReadsGuid, Slots, Whole, extended_in, four_slots, kind_in, listed, sector_in, used_of}
 use Rattle.table_laws.proofs.Chains.{chain_found, chain_there}
-use Rattle.table_laws.proofs.Guid.{HasGuid, guid_found, guid_there}
+use Rattle.table_laws.proofs.Guid.{guid_found, guid_there}
 use Rattle.table_laws.proofs.Images.{Same, same_mbr_slot}
 use Rattle.table_laws.proofs.Parts.{byte_in, marked_found, marked_inside, marked_there, part, part_found, part_there}
 
@@ -208,7 +208,7 @@ beside_there table.Mbr bytes (Slots mbr logical) small reads =
     let there = logical_there bytes spec (extended_slot spec) logical itself (extended_few spec) reads.1 in (
       reads.0.marked,
       ap (λ (found : Result (List MbrEntry) TableFault). found >>= λ logical. Ok (mbr_tables spec logical)) there
-      ∙ ap Ok (listed_same (image_of bytes) table.Mbr mbr logical None 512 reads.0),
+          ∙ ap Ok (listed_same (image_of bytes) table.Mbr mbr logical None 512 reads.0),
     )
 beside_there table.Gpt bytes (Guid mbr front back slot) small reads =
     (reads.0.marked, guid_beside table.Gpt bytes (sector_of table.Gpt bytes) mbr front back slot small reads)

@@ -4,4 +4,7 @@
 
 mod laws;
 
-pub use laws::{layouts_are_read, layouts_are_recognised, layouts_read_as, tables_are_read_as, tables_or_refusal};
+pub use laws::{
+    layouts_are_read, layouts_are_recognised, layouts_read_as, tables_are_read_as,
+    tables_or_refusal,
+};
