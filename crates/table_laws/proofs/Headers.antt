@@ -37,15 +37,18 @@ pub none_unmet : (ds : List Demand) → AllMet ds → first_unmet ds ≡ None
 none_unmet [] met = refl
 none_unmet (d ∷ ds) met = ap (λ (b : Bool). if b then first_unmet ds else Some d.at) met.0 ∙ none_unmet ds met.1
 
-sum_met : (same : Bool) (stated computed : ℕ) → (if same then None else Some (fault.Sum stated computed)) ≡ None → same ≡ true
+sum_met : (same : Bool) (stated computed : ℕ) → (if same then None else Some (fault.Sum stated computed)) ≡ None →
+    same ≡ true
 sum_met true stated computed h = refl
 sum_met false stated computed h = absurd cc
 
-no_fault : (unmet : Option ℕ) (head : List ℕ) → or_sum unmet head ≡ None → (unmet ≡ None) × (said head 16 4 ≡ sum_of head)
+no_fault : (unmet : Option ℕ) (head : List ℕ) → or_sum unmet head ≡ None →
+    (unmet ≡ None) × (said head 16 4 ≡ sum_of head)
 no_fault None head h = (refl, eqb-true _ _ (sum_met (said head 16 4 == sum_of head) (said head 16 4) (sum_of head) h))
 no_fault (Some at) head h = absurd cc
 
-pub unless_ok : {A : Type 0} (refusal : Option TableFault) (x y : A) → unless refusal x ≡ Ok y → (refusal ≡ None) × (x ≡ y)
+pub unless_ok : {A : Type 0} (refusal : Option TableFault) (x y : A) → unless refusal x ≡ Ok y →
+    (refusal ≡ None) × (x ≡ y)
 unless_ok None x y h = (refl, cc)
 unless_ok (Some e) x y h = absurd cc
 
@@ -56,8 +59,10 @@ none_mapped f (Some a) h = absurd cc
 -- ---- the bytes of a header
 
 -- a number in the 92 bytes of a header
-pub said_there : (bytes : List ℕ) (o a w : ℕ) → a + w ≤ 92 → said (part bytes o 92) a w ≡ number_at (image_of bytes) (o + a) w
-said_there bytes o a w within = same_number (image_of (part bytes o 92)) (image_of bytes) a (o + a) w (same_within bytes o 92 a w within)
+pub said_there : (bytes : List ℕ) (o a w : ℕ) → a + w ≤ 92 →
+    said (part bytes o 92) a w ≡ number_at (image_of bytes) (o + a) w
+said_there bytes o a w within = same_number (image_of (part bytes o 92)) (image_of bytes) a (o + a) w
+    (same_within bytes o 92 a w within)
 
 said_first : (bytes : List ℕ) (o : ℕ) → said (part bytes o 92) 0 8 ≡ number_at (image_of bytes) o 8
 said_first bytes o =
@@ -69,9 +74,11 @@ text_read : (image : ℕ → ℕ) (o n : ℕ) (text : List ℕ) → ((k : ℕ) �
     number_at image o n ≡ number_at (image_of text) 0 n → bytes_at image o n ≡ text
 text_read image o n text small fits long same =
     bytes_at-is image o n text long
-    (λ i h. let here : 0 + i ≡ i = omega arith in number_bytes image (image_of text) o 0 n small fits same i h ∙ ap (image_of text) here)
+    (λ i h. let here : 0 + i ≡ i = omega arith in number_bytes image (image_of text) o 0 n small fits same i h
+    ∙ ap (image_of text) here)
 
-pub text_said : (image : ℕ → ℕ) (o n : ℕ) (text : List ℕ) → bytes_at image o n ≡ text → number_at image o n ≡ number_at (image_of text) 0 n
+pub text_said : (image : ℕ → ℕ) (o n : ℕ) (text : List ℕ) → bytes_at image o n ≡ text →
+    number_at image o n ≡ number_at (image_of text) 0 n
 text_said image o n text is =
     same_number image (image_of text) o 0 n
     (λ i h. let here : i ≡ 0 + i = omega arith in
@@ -135,7 +142,8 @@ pub record IsRight (bytes : List ℕ) (o own : ℕ) (is_backup : Bool) : Type 0 
   pub slot_size : number_at (image_of bytes) (o + 84) 4 ≡ 128
 
 -- a field of the head says this
-field_is : (bytes : List ℕ) (o a w n : ℕ) → a + w ≤ 92 → (said (part bytes o 92) a w == n) ≡ true → number_at (image_of bytes) (o + a) w ≡ n
+field_is : (bytes : List ℕ) (o a w n : ℕ) → a + w ≤ 92 → (said (part bytes o 92) a w == n) ≡ true →
+    number_at (image_of bytes) (o + a) w ≡ n
 field_is bytes o a w n within test = sym (said_there bytes o a w within) ∙ eqb-true _ _ test
 
 other_one : (b : Bool) (n : ℕ) → (not b || (n == 1)) ≡ true → b ≡ true → n ≡ 1
@@ -145,7 +153,8 @@ other_one false n h is = absurd cc
 not_none : (n : ℕ) → not (n == 0) ≡ true → n ≢ 0
 not_none n h = eqb-false n 0 (not-true (n == 0) h)
 
-pub right_found : (bytes : List ℕ) (o own : ℕ) (is_backup : Bool) → AreBytes bytes → o + 92 ≤ length bytes → fault_of own is_backup (part bytes o 92) ≡ None → IsRight bytes o own is_backup
+pub right_found : (bytes : List ℕ) (o own : ℕ) (is_backup : Bool) → AreBytes bytes → o + 92 ≤ length bytes →
+    fault_of own is_backup (part bytes o 92) ≡ None → IsRight bytes o own is_backup
 right_found bytes o own is_backup small within h =
     let head = part bytes o 92 in
     let image = image_of bytes in
@@ -154,27 +163,32 @@ right_found bytes o own is_backup small within h =
     let entries = said_there bytes o 72 8 (omega arith) in
     record {
       inside = within;
-      signature = text_read image o 8 (codes "EFI PART") small name_small refl (sym (said_first bytes o) ∙ eqb-true _ _ met.0);
-      revision = text_read image (o + 8) 4 version small version_small refl (field_is bytes o 8 4 0x00010000 (omega arith) met.1.0);
+      signature = text_read image o 8 (codes "EFI PART") small name_small refl
+          (sym (said_first bytes o) ∙ eqb-true _ _ met.0);
+      revision = text_read image (o + 8) 4 version small version_small refl
+          (field_is bytes o 8 4 0x00010000 (omega arith) met.1.0);
       size = field_is bytes o 12 4 92 (omega arith) met.1.1.0;
       sum = sym (said_there bytes o 16 4 (omega arith)) ∙ none.1 ∙ sum_there bytes o within;
       reserved = field_is bytes o 20 4 0 (omega arith) met.1.1.1.0;
       own_there = field_is bytes o 24 8 own (omega arith) met.1.1.1.1.0;
-      other_there = λ is. sym (said_there bytes o 32 8 (omega arith)) ∙ other_one is_backup (said head 32 8) met.1.1.1.1.1.0 is;
+      other_there = λ is. sym (said_there bytes o 32 8 (omega arith))
+          ∙ other_one is_backup (said head 32 8) met.1.1.1.1.1.0 is;
       has_entries = λ none. not_none (said head 72 8) met.1.1.1.1.1.1.0 (entries ∙ none);
       slot_count = field_is bytes o 80 4 128 (omega arith) met.1.1.1.1.1.1.1.0;
       slot_size = field_is bytes o 84 4 128 (omega arith) met.1.1.1.1.1.1.1.1.0;
     }
 
 -- and the other way round
-said_so : (bytes : List ℕ) (o a w n : ℕ) → a + w ≤ 92 → number_at (image_of bytes) (o + a) w ≡ n → (said (part bytes o 92) a w == n) ≡ true
+said_so : (bytes : List ℕ) (o a w n : ℕ) → a + w ≤ 92 → number_at (image_of bytes) (o + a) w ≡ n →
+    (said (part bytes o 92) a w == n) ≡ true
 said_so bytes o a w n within is = eq-eqb _ _ (said_there bytes o a w within ∙ is)
 
 other_met : (b : Bool) (n : ℕ) → (b ≡ true → n ≡ 1) → (not b || (n == 1)) ≡ true
 other_met true n h = eq-eqb _ _ (h refl)
 other_met false n h = refl
 
-pub right_there : (bytes : List ℕ) (o own : ℕ) (is_backup : Bool) → IsRight bytes o own is_backup → fault_of own is_backup (part bytes o 92) ≡ None
+pub right_there : (bytes : List ℕ) (o own : ℕ) (is_backup : Bool) → IsRight bytes o own is_backup →
+    fault_of own is_backup (part bytes o 92) ≡ None
 right_there bytes o own is_backup right =
     let head = part bytes o 92 in
     let image = image_of bytes in
@@ -216,17 +230,20 @@ right_there bytes o own is_backup right =
 
 -- ---- the header that a reader finds
 
-pub header_found : (bytes head : List ℕ) (z own : ℕ) (is_backup : Bool) → AreBytes bytes → header_of bytes z own is_backup ≡ Ok head →
+pub header_found : (bytes head : List ℕ) (z own : ℕ) (is_backup : Bool) → AreBytes bytes →
+    header_of bytes z own is_backup ≡ Ok head →
     IsRight bytes (own * z) own is_backup × (part bytes (own * z) 92 ≡ head)
 header_found bytes head z own is_backup small h =
-    let step = bind_ok (part_of bytes (own * z) 92) (λ xs. unless (option_map (refusal_at (own * z)) (fault_of own is_backup xs)) xs) head h in
+    let step = bind_ok (part_of bytes (own * z) 92)
+    (λ xs. unless (option_map (refusal_at (own * z)) (fault_of own is_backup xs)) xs) head h in
     let there = part_found bytes step.0 (own * z) 92 step.1 in
     let passed = unless_ok (option_map (refusal_at (own * z)) (fault_of own is_backup step.0)) step.0 head step.2 in
     let none = none_mapped (refusal_at (own * z)) (fault_of own is_backup step.0) passed.0 in
     let right : fault_of own is_backup (part bytes (own * z) 92) ≡ None = ap (fault_of own is_backup) there.1 ∙ none in
     (right_found bytes (own * z) own is_backup small there.0 right, there.1 ∙ passed.1)
 
-pub header_there : (bytes : List ℕ) (z own : ℕ) (is_backup : Bool) → IsRight bytes (own * z) own is_backup → header_of bytes z own is_backup ≡ Ok (part bytes (own * z) 92)
+pub header_there : (bytes : List ℕ) (z own : ℕ) (is_backup : Bool) → IsRight bytes (own * z) own is_backup →
+    header_of bytes z own is_backup ≡ Ok (part bytes (own * z) 92)
 header_there bytes z own is_backup right =
     let there = part_there bytes (own * z) 92 right.inside in
     let none = right_there bytes (own * z) own is_backup right in

@@ -16,7 +16,8 @@ use Rattle.gpt_table.proofs.Spans.{get_or-bytes_at, length-bytes_at, same_bytes_
 abbrev pub Same : (ℕ → ℕ) → (ℕ → ℕ) → ℕ → ℕ → ℕ → Type 0
 Same image other o p n = (j : ℕ) → j < n → image (o + j) ≡ other (p + j)
 
-pub shifted : (image other : ℕ → ℕ) (o p n a w : ℕ) → a + w ≤ n → Same image other o p n → Same image other (o + a) (p + a) w
+pub shifted : (image other : ℕ → ℕ) (o p n a w : ℕ) → a + w ≤ n → Same image other o p n →
+    Same image other (o + a) (p + a) w
 shifted image other o p n a w within same j inside =
     let here : o + a + j ≡ o + (a + j) = omega arith in
     let there : p + (a + j) ≡ p + a + j = omega arith in
@@ -33,7 +34,8 @@ same_first image other o p n some same =
 
 -- ---- the same bytes read the same
 
-pub same_mbr_slot : (image other : ℕ → ℕ) (o p : ℕ) → Same image other o p 16 → mbr_slot_at image o ≡ mbr_slot_at other p
+pub same_mbr_slot : (image other : ℕ → ℕ) (o p : ℕ) → Same image other o p 16 →
+    mbr_slot_at image o ≡ mbr_slot_at other p
 same_mbr_slot image other o p same =
     same_mbr_entry (mbr_slot_at image o) (mbr_slot_at other p)
     (ap (λ (n : ℕ). n == 0x80) (same_first image other o p 16 (omega arith) same))
@@ -49,14 +51,24 @@ unfolding units_at
 same_units image other o p zero same = refl
 same_units image other o p (suc n) same =
     let first = same_number image other o p 2 (fewer image other o p (2 * suc n) 2 (omega arith) same) in
-    let rest = same_units image other (o + 2) (p + 2) n (shifted image other o p (2 * suc n) 2 (2 * n) (omega arith) same) in
+    let rest = same_units image other (o + 2) (p + 2) n
+    (shifted image other o p (2 * suc n) 2 (2 * n) (omega arith) same) in
     rw (first, rest) refl
 
 -- entries with the same fields are one
 abbrev entry : List ℕ → List ℕ → ℕ → ℕ → ℕ → List ℕ → GptEntry
-entry kind own first last attrs name = record { kind = kind; own = own; first = first; last = last; attrs = attrs; name = name }
+entry kind own first last attrs name = record {
+  kind = kind;
+  own = own;
+  first = first;
+  last = last;
+  attrs =
+      attrs;
+  name = name;
+}
 
-same_entry : (a b : GptEntry) → a.kind ≡ b.kind → a.own ≡ b.own → a.first ≡ b.first → a.last ≡ b.last → a.attrs ≡ b.attrs → a.name ≡ b.name → a ≡ b
+same_entry : (a b : GptEntry) → a.kind ≡ b.kind → a.own ≡ b.own → a.first ≡ b.first → a.last ≡ b.last →
+    a.attrs ≡ b.attrs → a.name ≡ b.name → a ≡ b
 same_entry a b kind own first last attrs name =
     ap (λ (x : List ℕ). entry x a.own a.first a.last a.attrs a.name) kind
     ∙ ap (λ (x : List ℕ). entry b.kind x a.first a.last a.attrs a.name) own
@@ -81,7 +93,8 @@ same_slot image other o p same =
 abbrev pub HasBytes : (ℕ → ℕ) → Type 0
 HasBytes image = (o : ℕ) → image o < 256
 
-pub number_bytes : (image other : ℕ → ℕ) (o p n : ℕ) → HasBytes image → HasBytes other → number_at image o n ≡ number_at other p n → Same image other o p n
+pub number_bytes : (image other : ℕ → ℕ) (o p n : ℕ) → HasBytes image → HasBytes other →
+    number_at image o n ≡ number_at other p n → Same image other o p n
 number_bytes image other o p zero small fits h j inside = absurd (omega arith)
 number_bytes image other o p (suc n) small fits h j inside =
     let below = small o in
@@ -92,14 +105,16 @@ number_bytes image other o p (suc n) small fits h j inside =
       | inl later ↦
           let here : o + j ≡ o + 1 + (j - 1) = omega arith in
           let there : p + 1 + (j - 1) ≡ p + j = omega arith in
-          ap image here ∙ number_bytes image other (o + 1) (p + 1) n small fits rest (j - 1) (omega arith) ∙ ap other there
+          ap image here ∙ number_bytes image other (o + 1) (p + 1) n small fits rest (j - 1) (omega arith)
+          ∙ ap other there
       | inr none ↦
           let here : o + j ≡ o = omega arith in
           let there : p ≡ p + j = omega arith in
           ap image here ∙ first ∙ ap other there
     ]
 
-units_bytes : (image other : ℕ → ℕ) (o p n : ℕ) → HasBytes image → HasBytes other → units_at image o n ≡ units_at other p n → Same image other o p (2 * n)
+units_bytes : (image other : ℕ → ℕ) (o p n : ℕ) → HasBytes image → HasBytes other →
+    units_at image o n ≡ units_at other p n → Same image other o p (2 * n)
 unfolding units_at
 units_bytes image other o p zero small fits h j inside = absurd (omega arith)
 units_bytes image other o p (suc n) small fits h j inside =
@@ -110,7 +125,8 @@ units_bytes image other o p (suc n) small fits h j inside =
       | inr later ↦
           let here : o + j ≡ o + 2 + (j - 2) = omega arith in
           let there : p + 2 + (j - 2) ≡ p + j = omega arith in
-          ap image here ∙ units_bytes image other (o + 2) (p + 2) n small fits rest (j - 2) (omega arith) ∙ ap other there
+          ap image here ∙ units_bytes image other (o + 2) (p + 2) n small fits rest (j - 2) (omega arith)
+          ∙ ap other there
     ]
 
 -- turned twice, an identifier is itself
@@ -125,23 +141,27 @@ guid_bytes image other o p h j inside =
     let turned : guid_order (guid_order these) ≡ guid_order (guid_order those) = ap guid_order h in
     let same : these ≡ those =
     sym (guid_twice these (length-bytes_at image o 16)) ∙ turned ∙ guid_twice those (length-bytes_at other p 16) in
-    sym (get_or-bytes_at image o 16 j inside) ∙ ap (λ (xs : List ℕ). get_or xs j 0) same ∙ get_or-bytes_at other p 16 j inside
+    sym (get_or-bytes_at image o 16 j inside) ∙ ap (λ (xs : List ℕ). get_or xs j 0) same
+    ∙ get_or-bytes_at other p 16 j inside
 
 -- a part of a slot
-at_part : (image other : ℕ → ℕ) (o p a w j : ℕ) → a ≤ j → j < a + w → Same image other (o + a) (p + a) w → image (o + j) ≡ other (p + j)
+at_part : (image other : ℕ → ℕ) (o p a w j : ℕ) → a ≤ j → j < a + w → Same image other (o + a) (p + a) w →
+    image (o + j) ≡ other (p + j)
 at_part image other o p a w j behind inside same =
     let here : o + j ≡ o + a + (j - a) = omega arith in
     let there : p + a + (j - a) ≡ p + j = omega arith in
     ap image here ∙ same (j - a) (omega arith) ∙ ap other there
 
-pub slot_bytes : (image other : ℕ → ℕ) (o p : ℕ) → HasBytes image → HasBytes other → slot_at image o ≡ slot_at other p → Same image other o p 128
+pub slot_bytes : (image other : ℕ → ℕ) (o p : ℕ) → HasBytes image → HasBytes other → slot_at image o ≡ slot_at other p →
+    Same image other o p 128
 slot_bytes image other o p small fits h j inside =
     let number : (a : ℕ) → number_at image (o + a) 8 ≡ number_at other (p + a) 8 → Same image other (o + a) (p + a) 8 =
     λ a same. number_bytes image other (o + a) (p + a) 8 small fits same in
     elim (cases_lt j 16) [
       | inl here ↦ guid_bytes image other o p (ap (λ (e : GptEntry). e.kind) h) j here
       | inr past ↦ elim (cases_lt j 32) [
-        | inl here ↦ at_part image other o p 16 16 j past here (guid_bytes image other (o + 16) (p + 16) (ap (λ (e : GptEntry). e.own) h))
+        | inl here ↦ at_part image other o p 16 16 j past here
+            (guid_bytes image other (o + 16) (p + 16) (ap (λ (e : GptEntry). e.own) h))
         | inr past_own ↦ elim (cases_lt j 40) [
           | inl here ↦ at_part image other o p 32 8 j past_own here (number 32 (ap (λ (e : GptEntry). e.first) h))
           | inr past_first ↦ elim (cases_lt j 48) [

@@ -15,11 +15,13 @@ abbrev pub part : List ℕ → ℕ → ℕ → List ℕ
 part bytes at n = take n (drop at bytes)
 
 part_by : (fits : Bool) (bytes found : List ℕ) (at n : ℕ) → nat_le (at + n) (length bytes) ≡ fits →
-    (if fits then Ok (part bytes at n) else Err (Short (length bytes))) ≡ Ok found → (at + n ≤ length bytes) × (part bytes at n ≡ found)
+    (if fits then Ok (part bytes at n) else Err (Short (length bytes))) ≡ Ok found →
+    (at + n ≤ length bytes) × (part bytes at n ≡ found)
 part_by true bytes found at n test h = (leb-true _ _ test, cc)
 part_by false bytes found at n test h = absurd cc
 
-pub part_found : (bytes found : List ℕ) (at n : ℕ) → part_of bytes at n ≡ Ok found → (at + n ≤ length bytes) × (part bytes at n ≡ found)
+pub part_found : (bytes found : List ℕ) (at n : ℕ) → part_of bytes at n ≡ Ok found →
+    (at + n ≤ length bytes) × (part bytes at n ≡ found)
 part_found bytes found at n h = part_by (nat_le (at + n) (length bytes)) bytes found at n refl h
 
 pub part_there : (bytes : List ℕ) (at n : ℕ) → at + n ≤ length bytes → part_of bytes at n ≡ Ok (part bytes at n)
@@ -42,7 +44,8 @@ same_part bytes at n j inside =
     ap (image_of (part bytes at n)) here ∙ byte_in bytes at n j inside
 
 -- from an offset of its own on
-pub same_within : (bytes : List ℕ) (at n o w : ℕ) → o + w ≤ n → Same (image_of (part bytes at n)) (image_of bytes) o (at + o) w
+pub same_within : (bytes : List ℕ) (at n o w : ℕ) → o + w ≤ n →
+    Same (image_of (part bytes at n)) (image_of bytes) o (at + o) w
 same_within bytes at n o w within j inside =
     let there : at + (o + j) ≡ at + o + j = omega arith in
     byte_in bytes at n (o + j) (omega arith) ∙ ap (image_of bytes) there
@@ -60,14 +63,19 @@ stands_inside bytes o some = elim (cases_lt o (length bytes)) [
 pub marked_inside : (bytes : List ℕ) (o : ℕ) → IsMarked (image_of bytes) o → o + 512 ≤ length bytes
 marked_inside bytes o marked =
     let last : image_of bytes (o + 511) ≡ 0xAA = marked.1 in
-    let inside = stands_inside bytes (o + 511) (λ none. let no : 0 ≡ 0xAA = sym none ∙ last in absurd (omega (arith, no))) in
+    let inside = stands_inside bytes (o + 511)
+    (λ none. let no : 0 ≡ 0xAA = sym none ∙ last in absurd (omega (arith, no))) in
     omega (arith, inside)
 
 pub marked_found : (bytes : List ℕ) (at : ℕ) → is_marked (part bytes at 512) ≡ true → IsMarked (image_of bytes) at
 marked_found bytes at h =
-    let both = and_parts _ _ h in
-    (sym (byte_in bytes at 512 510 (omega arith)) ∙ eqb-true _ _ both.0, sym (byte_in bytes at 512 511 (omega arith)) ∙ eqb-true _ _ both.1)
+    let both = and_parts _ _ h in (
+      sym (byte_in bytes at 512 510 (omega arith)) ∙ eqb-true _ _ both.0,
+      sym (byte_in bytes at 512 511 (omega arith))
+          ∙ eqb-true _ _ both.1,
+    )
 
 pub marked_there : (bytes : List ℕ) (at : ℕ) → IsMarked (image_of bytes) at → is_marked (part bytes at 512) ≡ true
 marked_there bytes at marked =
-    and_from _ _ (eq-eqb _ _ (byte_in bytes at 512 510 (omega arith) ∙ marked.0)) (eq-eqb _ _ (byte_in bytes at 512 511 (omega arith) ∙ marked.1))
+    and_from _ _ (eq-eqb _ _ (byte_in bytes at 512 510 (omega arith) ∙ marked.0))
+    (eq-eqb _ _ (byte_in bytes at 512 511 (omega arith) ∙ marked.1))

@@ -20,11 +20,13 @@ used_same slot other (suc k) same =
     let last = same k (omega arith) in
     ap (λ (xs : List ℕ). xs ++ if_used (slot k) k) rest ∙ ap (λ (e : GptEntry). used_below other k ++ if_used e k) last
 
-one_mapped : (slot other : ℕ → GptEntry) (used : Bool) (k : ℕ) → slot k ≡ other k → map slot (if used then k ∷ [] else []) ≡ map other (if used then k ∷ [] else [])
+one_mapped : (slot other : ℕ → GptEntry) (used : Bool) (k : ℕ) → slot k ≡ other k →
+    map slot (if used then k ∷ [] else []) ≡ map other (if used then k ∷ [] else [])
 one_mapped slot other true k same = ap (λ (e : GptEntry). e ∷ []) same
 one_mapped slot other false k same = refl
 
-pub entries_same : (slot other : ℕ → GptEntry) (n : ℕ) → AreSame slot other n → map slot (used_below slot n) ≡ map other (used_below other n)
+pub entries_same : (slot other : ℕ → GptEntry) (n : ℕ) → AreSame slot other n →
+    map slot (used_below slot n) ≡ map other (used_below other n)
 unfolding used_below
 entries_same slot other zero same = refl
 entries_same slot other (suc k) same =
@@ -32,6 +34,7 @@ entries_same slot other (suc k) same =
     let last = same k (omega arith) in
     map-append slot (used_below slot k) (if_used (slot k) k)
     ∙ ap (λ (es : List GptEntry). es ++ map slot (if_used (slot k) k)) rest
-    ∙ ap (λ (es : List GptEntry). map other (used_below other k) ++ es) (one_mapped slot other (is_used (slot k)) k last)
+    ∙ ap (λ (es : List GptEntry). map other (used_below other k) ++ es)
+    (one_mapped slot other (is_used (slot k)) k last)
     ∙ ap (λ (e : GptEntry). map other (used_below other k) ++ map other (if_used e k)) last
     ∙ sym (map-append other (used_below other k) (if_used (other k) k))

@@ -24,17 +24,20 @@ use Rattle.table_laws.specs.ReadAs.{AreBytes, AreTablesOf, Guid, ReadAs, Slots, 
 
 -- the answer to a file is tables exactly where its bytes read as these with what is recognised
 abbrev pub TablesAreReadAs : Type 0
-TablesAreReadAs = (bytes : List ℕ) (tables : Tables) → AreBytes bytes → (tables_of (Some bytes) ≡ Ok tables) ↔ AreTablesOf bytes tables
+TablesAreReadAs = (bytes : List ℕ) (tables : Tables) → AreBytes bytes →
+    (tables_of (Some bytes) ≡ Ok tables) ↔ AreTablesOf bytes tables
 
 -- there are tables, and then no refusal; or there is a refusal, and then no tables
 abbrev pub TablesOrRefusal : Type 0
 TablesOrRefusal = (bytes : List ℕ) → AreBytes bytes →
     ((tables : Tables) × AreTablesOf bytes tables × ((refusal : TableFault) → tables_of (Some bytes) ≢ Err refusal))
-    ⊎ ((refusal : TableFault) × (tables_of (Some bytes) ≡ Err refusal) × ((tables : Tables) → ¬ AreTablesOf bytes tables))
+    ⊎ ((refusal : TableFault) × (tables_of (Some bytes) ≡ Err refusal)
+    × ((tables : Tables) → ¬ AreTablesOf bytes tables))
 
 -- bytes have one set of tables at most
 abbrev pub TablesAreOne : Type 0
-TablesAreOne = (bytes : List ℕ) (tables others : Tables) → AreBytes bytes → AreTablesOf bytes tables → AreTablesOf bytes others → tables ≡ others
+TablesAreOne = (bytes : List ℕ) (tables others : Tables) → AreBytes bytes → AreTablesOf bytes tables →
+    AreTablesOf bytes others → tables ≡ others
 
 -- ---- what the tables of a layout read as
 
@@ -49,7 +52,8 @@ whole_for l spec (Some g) = Guid spec (front_header g) (back_header g) (slot_of 
 
 -- an image of a layout's size whose tables read back reads as these, with the layout's own kind, slot and sector size
 abbrev pub LayoutsReadAs : Type 0
-LayoutsReadAs = (l : Layout) (bytes : List ℕ) → IsLayout l → l.table ≢ table.Bare → length bytes ≡ l.size → ReadsBack (image_of bytes) l →
+LayoutsReadAs = (l : Layout) (bytes : List ℕ) → IsLayout l → l.table ≢ table.Bare → length bytes ≡ l.size →
+    ReadsBack (image_of bytes) l →
     IsSomeAnd l.mbr (λ spec. ReadAs l.table bytes (slot_for l.logical spec) l.sector (whole_for l spec l.gpt))
 
 -- ---- what is recognised of a layout
@@ -60,7 +64,8 @@ IsPlain e = (e.kind ≢ 0x05) × (e.kind ≢ 0x0F) × (e.kind ≢ 0xEE)
 
 -- each slot but that of the extended partition, where there are logical ones
 abbrev pub HasPlainSlots : Layout → MbrSpec → Type 0
-HasPlainSlots l spec = (k : ℕ) → k < 4 → (l.logical ≡ []) ⊎ (k ≢ extended_slot spec l.logical) → IsPlain (entry_of spec k)
+HasPlainSlots l spec = (k : ℕ) → k < 4 → (l.logical ≡ []) ⊎ (k ≢ extended_slot spec l.logical) →
+    IsPlain (entry_of spec k)
 
 -- in sectors of 4,096 bytes no `EFI PART` stands at 512
 abbrev pub ShowsSector : Layout → List ℕ → Type 0
@@ -85,7 +90,8 @@ pub record IsRecognised (kind : TableKind) (l : Layout) (bytes : List ℕ) (spec
   pub sector_is : sector_in bytes ≡ l.sector
 
 abbrev pub LayoutsAreRecognised : Type 0
-LayoutsAreRecognised = (l : Layout) (bytes : List ℕ) → IsLayout l → length bytes ≡ l.size → ReadsBack (image_of bytes) l → IsDistinct l.table l bytes →
+LayoutsAreRecognised = (l : Layout) (bytes : List ℕ) → IsLayout l → length bytes ≡ l.size →
+    ReadsBack (image_of bytes) l → IsDistinct l.table l bytes →
     IsSomeAnd l.mbr (λ spec. IsRecognised l.table l bytes spec)
 
 -- ---- the tables of a layout
@@ -103,5 +109,6 @@ tables_for l spec = record {
 
 -- an image of a layout's size whose tables read back is read as the layout's tables
 abbrev pub LayoutsAreRead : Type 0
-LayoutsAreRead = (l : Layout) (bytes : List ℕ) → AreBytes bytes → IsLayout l → length bytes ≡ l.size → ReadsBack (image_of bytes) l → IsDistinct l.table l bytes →
+LayoutsAreRead = (l : Layout) (bytes : List ℕ) → AreBytes bytes → IsLayout l → length bytes ≡ l.size →
+    ReadsBack (image_of bytes) l → IsDistinct l.table l bytes →
     IsSomeAnd l.mbr (λ spec. tables_of (Some bytes) ≡ Ok (tables_for l spec))

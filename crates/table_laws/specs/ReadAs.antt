@@ -1,5 +1,5 @@
--- What the tables of an image are read as, whatever a reader does: all that they say, with the kind of table, the slot of
--- the extended partition (from 1, and 0 where there is none) and the sector size.
+-- What the tables of an image are read as, whatever a reader does: all that they say, with the kind of table, the slot
+-- of the extended partition (from 1, and 0 where there is none) and the sector size.
 use Rattle.std.specs.Prelude.{◌≡◌, ℕ, zero, suc, ◌+◌, ◌*◌, ◌<◌, List, [], ◌∷◌, None, Some, length, map, slice_index}
 use Rattle.base_fields.specs.declared.spans.TableKind.{TableKind}
 use Rattle.base_fields.specs.declared.spans.TableKind.TheVariants as table
@@ -23,8 +23,8 @@ AreBytes bytes = (o : ℕ) → slice_index bytes o < 256
 
 -- ---- what is read
 
--- all that tables say: a master boot record with its logical partitions, or one beside a GUID partition table, with both
--- headers of that and the entry in each of its 128 slots, in use or not
+-- all that tables say: a master boot record with its logical partitions, or one beside a GUID partition table, with
+-- both headers of that and the entry in each of its 128 slots, in use or not
 pub data Whole : Type 0 where
   Slots : MbrSpec → List MbrEntry → Whole
   Guid : MbrSpec → GptHeader → GptHeader → (ℕ → GptEntry) → Whole
@@ -39,8 +39,10 @@ abbrev pub ReadsGuid : List ℕ → ℕ → MbrSpec → GptHeader → GptHeader 
 ReadsGuid bytes sector mbr front back slot =
     ReadsMbr (image_of bytes) mbr × ReadsGpt (image_of bytes) (length bytes) sector front back slot
 
+-- bytes that read as all this, with a kind, a slot and a sector size; nothing reads as no table
 abbrev pub ReadAs : TableKind → List ℕ → ℕ → ℕ → Whole → Type 0
-ReadAs table.Mbr bytes slot sector (Slots mbr logical) = ReadsMbr (image_of bytes) mbr × AreLogical (image_of bytes) slot logical
+ReadAs table.Mbr bytes slot sector (Slots mbr logical) =
+    ReadsMbr (image_of bytes) mbr × AreLogical (image_of bytes) slot logical
 ReadAs table.Gpt bytes slot sector (Guid mbr front back entries) = ReadsGuid bytes sector mbr front back entries
 ReadAs table.Hybrid bytes slot sector (Guid mbr front back entries) = ReadsGuid bytes sector mbr front back entries
 ReadAs kind bytes slot sector whole = ⊥
