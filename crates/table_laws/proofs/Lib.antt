@@ -1,5 +1,6 @@
 -- lemmas
 mod Backups
+mod Built
 mod Chains
 mod Guid
 mod Halves

@@ -1,3 +1,4 @@
+ghost use Rattle.table_laws.specs.Built.{BuiltImagesAreRead};
 ghost use Rattle.table_laws.specs.Laws.{LayoutsAreRead, LayoutsAreRecognised, LayoutsReadAs, TablesAreOne};
 ghost use Rattle.table_laws.specs.Laws.{TablesAreReadAs, TablesOrRefusal};
 
@@ -33,4 +34,9 @@ pub fn layouts_are_recognised()
 /// Nothing is done: the contract is the law that such an image is read as the layout's tables.
 pub fn layouts_are_read()
     ensures { LayoutsAreRead }
+{}
+
+/// Nothing is done: the contract is the law that what is built by a layout is read as its tables.
+pub fn built_images_are_read()
+    ensures { BuiltImagesAreRead }
 {}

@@ -5,6 +5,6 @@
 mod laws;
 
 pub use laws::{
-    layouts_are_read, layouts_are_recognised, layouts_read_as, tables_are_read_as,
-    tables_or_refusal,
+    built_images_are_read, layouts_are_read, layouts_are_recognised, layouts_read_as,
+    tables_are_read_as, tables_or_refusal,
 };
