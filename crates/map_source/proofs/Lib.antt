@@ -1,1 +1,2 @@
--- lemmas of the crate
+-- lemmas
+mod Differing

@@ -1,11 +1,11 @@
 //! The text of a file.
-ghost use Rattle.std.specs.Prelude.{◌≡◌, ◌≤◌, IfErr, IfOk, length};
+ghost use Rattle.std.specs.Prelude.{◌≡◌, IfErr, IfOk, length};
 ghost use Rattle.job_stages.specs.Stages.{Gives};
 ghost use Rattle.outside.specs.Counts.{NoneFell};
 ghost use Rattle.outside.specs.Files.{IsThere, bytes_of};
 ghost use Rattle.base_fields.specs.Results.{or_else};
 ghost use Rattle.map_source.specs.Faults.{IsShown, is_counted};
-ghost use Rattle.map_source.specs.Said.{HasLength, most_bytes, text_said};
+ghost use Rattle.map_source.specs.Said.{HasLength, text_said};
 
 use crate::SourceFault;
 use base_fields::{Bytes, NoMemory};
@@ -43,7 +43,6 @@ fn read_bytes<F: Files>(
     name: &str,
     len: u64,
 ) -> Result<Bytes, SourceFault>
-    requires limit { len ≤ most_bytes }
     requires there { F.told → IsThere (F.file files.old) name.now (len ≡ length (bytes_of (F.file files.old) name.now)) }
     ensures none_fell { NoneFell (F.counts files.old) (F.counts files.new) }
     ensures same_files { F.file files.new ≡ F.file files.old }

@@ -1,0 +1,3 @@
+-- lemmas
+mod Answered
+mod Targets
