@@ -1,3 +1,2 @@
 -- lemmas
-mod Answered
-mod Targets
+mod Bounds

@@ -20,7 +20,7 @@ pub fn verify_under<B: Bench>(
     pool: &mut Pool,
     target: &str,
 ) -> Result<u64, VerifyFault>
-    requires { HasNoOther (B.meter bench.old) Dev.Target target.now }
+    requires name { HasNoOther (B.meter bench.old) Dev.Target target.now }
     requires map { IsMap map.now }
     requires free { 0 < free_of pool.old }
     ensures counted { IfOk result (λ count. count ≡ digests_among map.now.ranges) }
