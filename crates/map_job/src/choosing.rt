@@ -1,9 +1,9 @@
 //! Which image is mapped, and whether the map's file has a name of its own.
 ghost use Rattle.std.specs.Prelude.{◌≡◌, ◌<◌, ◌≤◌, IfOk, length};
-ghost use Rattle.std.specs.List.{flat_map};
-ghost use Rattle.image_graph.specs.Clashes.{ready_name, taken};
+ghost use Rattle.std.specs.List.{list_any};
+ghost use Rattle.std.specs.Str.{bytes_eq};
+ghost use Rattle.image_graph.specs.Clashes.{ready_name};
 ghost use Rattle.image_names.specs.Names.{holds};
-ghost use Rattle.image_specs.specs.Specs.{full_names};
 ghost use Rattle.map_job.specs.Said.{chosen_said, is_named};
 
 use crate::MappingFault;
@@ -31,6 +31,7 @@ pub fn choose(
     Ok(number)
 }
 
+#[tactic(auto, using(crate::proofs::Chosen::ready_held, crate::proofs::Chosen::full_held))]
 fn is_named(texts: &[Name], specs: &[ImageSpec], out: &str) -> bool
     ensures { result ≡ is_named texts.now specs.now out.now }
 {
@@ -45,13 +46,13 @@ fn is_text(texts: &[Name], out: &str) -> bool
 
 // Whether a file that is taken ready has that name.
 fn is_ready(specs: &[ImageSpec], out: &str) -> bool
-    ensures { result ≡ holds (taken specs.now) out.now }
+    ensures { result ≡ list_any (λ spec. list_any (λ source. holds (ready_name source) out.now) spec.sources) specs.now }
 {
     specs.iter().any(|spec| is_ready_for(spec.sources.as_slice(), out))
 }
 
 fn is_ready_for(sources: &[Source], out: &str) -> bool
-    ensures { result ≡ holds (flat_map ready_name sources.now) out.now }
+    ensures { result ≡ list_any (λ source. holds (ready_name source) out.now) sources.now }
 {
     sources.iter().any(|source| is_ready_source(source, out))
 }
@@ -67,7 +68,7 @@ fn is_ready_source(source: &Source, out: &str) -> bool
 
 // Whether the file of an image that is built has that name.
 fn is_built(specs: &[ImageSpec], out: &str) -> bool
-    ensures { result ≡ holds (full_names specs.now) out.now }
+    ensures { result ≡ list_any (λ spec. bytes_eq out.now spec.full) specs.now }
 {
     specs.iter().any(|spec| out == spec.full.text())
 }
