@@ -1,11 +1,12 @@
 -- The names that a map's file may not have, and the number of an image.
-use Rattle.std.specs.Prelude.{◌≡◌, ℕ, ◌<◌, ◌||◌, List, [], ◌∷◌, Option, Some, Result, Ok, length, slice_get}
+use Rattle.std.specs.Prelude.{◌≡◌, ℕ, ◌<◌, ◌||◌, List, [], ◌∷◌, Option, Some, Result, Ok, length, slice_get, slice_index_or}
 use Rattle.std.specs.List.{flat_map, list_any}
 use Rattle.std.specs.Str.{bytes_eq}
-use Rattle.std.proofs.Common.{ap, arith, refl, ◌∙◌}
+use Rattle.std.proofs.Common.{ap, arith, refl, sym, ◌∙◌}
 use Rattle.std.proofs.lemmas.List.{length-map}
 use Rattle.std.proofs.lemmas.List.Folds.{list_any-append}
 use Rattle.std.proofs.lemmas.List.Quantifiers.{position-Some}
+use Rattle.std.proofs.lemmas.Option.{slice_get-get_or}
 use Rattle.base_fields.specs.Results.{◌>>=◌, or_else}
 use Rattle.image_graph.specs.Clashes.{ready_name, taken}
 use Rattle.image_graph.specs.declared.images.Graph.{Graph}
@@ -59,9 +60,13 @@ number_inside specs name number found =
 
 -- what is said of the whole is said of the image that is chosen
 pub mapping_is : (texts : List (List ℕ)) (graph : Graph) (file : Tree) (image out : List ℕ) (number : ℕ)
-    (spec : ImageSpec) → chosen_said texts graph.specs image out ≡ Ok number
-    → slice_get graph.specs number ≡ Some spec
+    (specs : List ImageSpec) (spec : ImageSpec) → Ok number ≡ chosen_said texts graph.specs image out
+    → specs ≡ graph.specs → number < length graph.specs → spec ≡ slice_index_or specs number spec
     → mapping_said texts graph file image out ≡ image_said file number spec
-mapping_is texts graph file image out number spec chosen found =
-    ap (λ (r : Result ℕ MappingFault). r >>= (λ n. or_else (slice_get graph.specs n) NoImage >>= image_said file n)) chosen
+mapping_is texts graph file image out number specs spec chosen same below is =
+    let found : slice_get graph.specs number ≡ Some spec =
+    slice_get-get_or graph.specs number spec below
+    ∙ ap Some (sym (is ∙ ap (λ (ss : List ImageSpec). slice_index_or ss number spec) same)) in
+    ap (λ (r : Result ℕ MappingFault).
+    r >>= (λ n. or_else (slice_get graph.specs n) NoImage >>= image_said file n)) (sym chosen)
     ∙ ap (λ (o : Option ImageSpec). or_else o NoImage >>= image_said file number) found

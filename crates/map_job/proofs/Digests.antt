@@ -10,6 +10,7 @@ use Rattle.block_map.specs.Laws.{DigestsGoOn}
 use Rattle.block_map.specs.Maps.{HasDigestSet, IsMapTo, IsRangeBytes, part_of}
 use Rattle.block_map.specs.declared.maps.BlockMap.{BlockMap}
 use Rattle.block_map.specs.declared.maps.Range.{Range}
+use Rattle.outside.specs.Files.{Tree, bytes_of}
 use Rattle.outside.specs.Reading.{run_of, span_of}
 use Rattle.outside.specs.declared.reading.FillFault.{FillFault}
 use Rattle.range_digest.specs.Digests.{Digests}
@@ -53,6 +54,14 @@ digest_more go_on file spans bytes digest block k old new span there range some 
     (ap (λ (f : Option (List ℕ)). span_of f span.at span.len) there ∙ span_there bytes span some inside) given in
     let of_range = is ∙ ap (λ (s : Span). sha256 (part_of s bytes)) (range d) in
     go_on spans bytes block k old new d so_far below (subst (λ (h : List ℕ). HasDigestSet old k h new) of_range set)
+
+-- the same, of a file that is as before
+pub range_more : (old now : Tree) (name : List ℕ) (spans : List Span) (block k : ℕ) (m n : BlockMap) → now ≡ old
+    → (IsMapTo spans (bytes_of now name) block k m → IsMapTo spans (bytes_of now name) block (k + 1) n)
+    → IsMapTo spans (bytes_of old name) block k m → IsMapTo spans (bytes_of old name) block (k + 1) n
+range_more old now name spans block k m n same more =
+    subst (λ (t : Tree). IsMapTo spans (bytes_of t name) block k m → IsMapTo spans (bytes_of t name) block (k + 1) n)
+    same more
 
 pub set_many : (old new : BlockMap) (k : ℕ) (digest : List ℕ) → HasDigestSet old k digest new
     → length new.ranges ≡ length old.ranges
