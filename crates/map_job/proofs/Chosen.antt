@@ -2,20 +2,18 @@
 use Rattle.std.specs.Prelude.{◌≡◌, ℕ, ◌<◌, ◌||◌, List, [], ◌∷◌, Option, Some, Result, Ok, length, slice_get, slice_index_or}
 use Rattle.std.specs.List.{flat_map, list_any}
 use Rattle.std.specs.Str.{bytes_eq}
-use Rattle.std.proofs.Common.{ap, arith, refl, sym, ◌∙◌}
-use Rattle.std.proofs.lemmas.List.{length-map}
+use Rattle.std.proofs.Common.{ap, refl, sym, ◌∙◌}
 use Rattle.std.proofs.lemmas.List.Folds.{list_any-append}
-use Rattle.std.proofs.lemmas.List.Quantifiers.{position-Some}
 use Rattle.std.proofs.lemmas.Option.{slice_get-get_or}
 use Rattle.base_fields.specs.Results.{◌>>=◌, or_else}
 use Rattle.image_graph.specs.Clashes.{ready_name, taken}
 use Rattle.image_graph.specs.declared.images.Graph.{Graph}
-use Rattle.image_names.specs.Names.{holds, number_of}
+use Rattle.image_names.specs.Names.{holds}
 use Rattle.image_names.proofs.NameLemmas.{list_any-map}
 use Rattle.image_specs.specs.declared.specs.ImageSpec.{ImageSpec}
-use Rattle.image_specs.specs.Specs.{full_names, spec_names}
+use Rattle.image_specs.specs.Specs.{full_names}
 use Rattle.outside.specs.Files.{Tree}
-use Rattle.map_job.specs.Said.{Image, chosen_said, image_said, mapping_said}
+use Rattle.map_job.specs.Said.{chosen_said, image_said, mapping_said}
 use Rattle.map_job.specs.declared.faults.MappingFault.{MappingFault}
 use Rattle.map_job.specs.declared.faults.MappingFault.TheVariants.{NoImage}
 
@@ -50,13 +48,6 @@ pub full_held : (specs : List ImageSpec) (name : List ℕ)
 full_held specs name = list_any-map (bytes_eq name) (λ (spec : ImageSpec). spec.full) specs
 
 -- ---- the image
-
-pub number_inside : (specs : List ImageSpec) (name : List ℕ) (number : ℕ)
-    → number_of (spec_names specs) name ≡ Some number → number < length specs
-number_inside specs name number found =
-    let at = position-Some (bytes_eq name) (spec_names specs) number [] found in
-    let many : length (spec_names specs) ≡ length specs = length-map specs (λ (spec : ImageSpec). spec.name) in
-    omega (arith, at.0, many)
 
 -- what is said of the whole is said of the image that is chosen
 pub mapping_is : (texts : List (List ℕ)) (graph : Graph) (file : Tree) (image out : List ℕ) (number : ℕ)

@@ -1,7 +1,6 @@
 -- The digest of a range.
-use Rattle.std.specs.Prelude.{◌≡◌, ℕ, ◌+◌, ◌<◌, ◌≤◌, List, Result, Ok, Err, IsOkAnd, IsTrue, None, Option, Some, drop, length}
-use Rattle.std.specs.Prelude.{nat_eq, nat_le, slice_index_or, take, if◌then◌else◌}
-use Rattle.std.proofs.Common.{ap, arith, refl, subst, sym, ◌∙◌}
+use Rattle.std.specs.Prelude.{◌≡◌, ℕ, ◌+◌, ◌<◌, ◌≤◌, List, Result, Ok, IsOkAnd, None, Option, Some, length}
+use Rattle.std.proofs.Common.{ap, arith, subst, ◌∙◌}
 use Rattle.std.proofs.lemmas.Bool.Decides.{nat_tests}
 use Rattle.std.proofs.lemmas.List.{length-set}
 use Rattle.sha2.specs.Sha256.{sha256}
@@ -11,12 +10,9 @@ use Rattle.block_map.specs.Maps.{HasDigestSet, IsMapTo, IsRangeBytes, part_of}
 use Rattle.block_map.specs.declared.maps.BlockMap.{BlockMap}
 use Rattle.block_map.specs.declared.maps.Range.{Range}
 use Rattle.outside.specs.Files.{Tree, bytes_of}
-use Rattle.outside.specs.Reading.{run_of, span_of}
+use Rattle.outside.specs.Reading.{span_of}
 use Rattle.outside.specs.declared.reading.FillFault.{FillFault}
 use Rattle.range_digest.specs.Digests.{Digests}
-use Rattle.range_digest.specs.declared.digests.DigestFault.{DigestFault}
-use Rattle.range_digest.specs.declared.digests.DigestFault.TheVariants.{Missing, SourceShort, FileFault}
-use Rattle.map_job.specs.Faults.{is_digest_counted}
 
 -- a span that has bytes and lies within the file is there
 pub span_there : (bytes : List ℕ) (span : Span) → 0 < span.len → span.at + span.len ≤ length bytes
@@ -26,20 +22,6 @@ span_there bytes span some inside = grind (arith, nat_tests)
 digest_is : (wanted : Result (List ℕ) FillFault) (bytes digest : List ℕ) → wanted ≡ Ok bytes
     → Digests wanted (Ok digest) → digest ≡ sha256 bytes
 digest_is wanted bytes digest is given = subst (λ w. IsOkAnd w (λ bs. digest ≡ sha256 bs)) is given
-
--- then only a call that failed leaves it without a digest
-counted_is : (wanted : Result (List ℕ) FillFault) (bytes : List ℕ) (fault : DigestFault) → wanted ≡ Ok bytes
-    → Digests wanted (Err fault) → IsTrue (is_digest_counted fault)
-counted_is wanted bytes Missing is given = absurd (cc)
-counted_is wanted bytes (SourceShort at) is given = absurd (cc)
-counted_is wanted bytes FileFault is given = refl
-
-pub digest_counted : (file : Option (List ℕ)) (bytes : List ℕ) (span : Span) (fault : DigestFault) → file ≡ Some bytes
-    → 0 < span.len → span.at + span.len ≤ length bytes
-    → Digests (span_of file span.at span.len) (Err fault) → IsTrue (is_digest_counted fault)
-digest_counted file bytes span fault there some inside given =
-    counted_is (span_of file span.at span.len) (part_of span bytes) fault
-    (ap (λ (f : Option (List ℕ)). span_of f span.at span.len) there ∙ span_there bytes span some inside) given
 
 -- the digest of a range more
 pub digest_more : DigestsGoOn → (file : Option (List ℕ)) (spans : List Span) (bytes digest : List ℕ) (block k : ℕ)

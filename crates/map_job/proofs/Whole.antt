@@ -1,10 +1,10 @@
 -- The map of an image that is measured, and its file.
-use Rattle.std.specs.Prelude.{◌≡◌, ℕ, List, [], Option, Some, None, Result, Ok, Err, IsOkAnd, length, unwrap_or}
-use Rattle.std.proofs.Common.{ap, subst, sym, ◌∙◌}
+use Rattle.std.specs.Prelude.{◌≡◌, ℕ, List, [], Option, Some, Result, Ok, Err, IsOkAnd, length, unwrap_or}
+use Rattle.std.proofs.Common.{ap, subst, ◌∙◌}
 use Rattle.block_map.specs.Maps.{IsMap, IsMapOf, blocks_in}
 use Rattle.block_map.specs.declared.maps.BlockMap.{BlockMap}
 use Rattle.bmap_writer.specs.Written.{written_text}
-use Rattle.outside.specs.Files.{IsThere, Tree, bytes_of}
+use Rattle.outside.specs.Files.{Tree, bytes_of}
 use Rattle.map_job.specs.Mapped.{IsMapped, IsMeasured}
 use Rattle.map_job.specs.Said.{Image}
 use Rattle.map_job.specs.declared.faults.MappingFault.{MappingFault}
@@ -13,16 +13,6 @@ use Rattle.map_job.specs.declared.measuring.Measured.{Measured}
 
 bytes_are : (file : Option (List ℕ)) (bytes : List ℕ) → file ≡ Some bytes → unwrap_or file [] ≡ bytes
 bytes_are file bytes there = ap (λ (o : Option (List ℕ)). unwrap_or o []) there
-
--- a file that is measured is there
-pub there_by : (said : Result Image MappingFault) (before file : Tree) (name : List ℕ) (measured : Measured)
-    → file ≡ before → IsOkAnd said (IsMeasured (before name) measured)
-    → IsThere file name (length (bytes_of file name) ≡ measured.size)
-there_by (Ok image) before file name measured same h =
-    subst (λ (t : Tree). IsThere t name (length (bytes_of t name) ≡ measured.size)) (sym same)
-    (h.there ∙ ap Some (sym (bytes_are (before name) image.bytes h.there)),
-    ap (λ (bs : List ℕ). length bs) (bytes_are (before name) image.bytes h.there) ∙ h.long)
-there_by (Err fault) before file name measured same h = absurd h
 
 -- its map is written
 pub mapped_by : (said : Result Image MappingFault) (before file : Tree) (name : List ℕ) (after : Option (List ℕ))

@@ -4,7 +4,6 @@ use Rattle.base_fields.specs.declared.spans.Span.{Span}
 use Rattle.block_map.specs.Maps.{IsMap, IsMapOf, blocks_in}
 use Rattle.block_map.specs.declared.maps.BlockMap.{BlockMap}
 use Rattle.bmap_writer.specs.Written.{written_text}
-use Rattle.outside.specs.Files.{Tree}
 use Rattle.span_cover.specs.Cover.{covers}
 use Rattle.map_job.specs.Said.{Image}
 use Rattle.map_job.specs.declared.mapping.Mapped.{Mapped}

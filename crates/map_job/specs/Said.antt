@@ -1,5 +1,5 @@
 -- What is said of a block map before it is made: of which image it is, and what of that counts, or the first refusal.
-use Rattle.std.specs.Prelude.{ℕ, ◌^◌, Bool, true, false, ◌||◌, not, List, Result, Ok, Err, length, nat_eq, nat_le, nat_lt, slice_get}
+use Rattle.std.specs.Prelude.{ℕ, ◌^◌, Bool, true, false, ◌||◌, not, List, Result, length, nat_eq, nat_le, nat_lt, slice_get}
 use Rattle.base_fields.specs.Results.{◌>>=◌, or_else, refused_by, when}
 use Rattle.build_job.specs.Said.{sparse_said}
 use Rattle.image_graph.specs.Clashes.{taken}

@@ -12,12 +12,7 @@ use image_graph::{Graph, ImageSpec, Source};
 
 /// The number of the built image of that name, where `out` is the name of no text, of no file that is taken ready and of no
 /// image's file. Takes no memory.
-pub fn choose(
-    texts: &[Name],
-    graph: &Graph,
-    image: &str,
-    out: &str,
-) -> Result<u32, MappingFault>
+pub fn choose(texts: &[Name], graph: &Graph, image: &str, out: &str) -> Result<u32, MappingFault>
     requires few { length graph.now.specs ≤ 64 }
     ensures said { result ≡ chosen_said texts.now graph.now.specs image.now out.now }
     ensures within { IfOk result (λ number. number < length graph.now.specs) }
@@ -48,7 +43,9 @@ fn is_text(texts: &[Name], out: &str) -> bool
 fn is_ready(specs: &[ImageSpec], out: &str) -> bool
     ensures { result ≡ list_any (λ spec. list_any (λ source. holds (ready_name source) out.now) spec.sources) specs.now }
 {
-    specs.iter().any(|spec| is_ready_for(spec.sources.as_slice(), out))
+    specs
+        .iter()
+        .any(|spec| is_ready_for(spec.sources.as_slice(), out))
 }
 
 fn is_ready_for(sources: &[Source], out: &str) -> bool

@@ -2,7 +2,7 @@
 ghost use Rattle.std.specs.Prelude.{◌≡◌, ℕ, ◌+◌, ◌<◌, ◌≤◌, ◌^◌, IfErr, IfOk, IsTrue, List, OnOk, length};
 ghost use Rattle.base_fields.specs.Numbers.{IsPowerBetween};
 ghost use Rattle.base_fields.specs.declared.spans.Span.{Span as span_of};
-ghost use Rattle.block_map.specs.Maps.{IsBareMapOf, IsMap, IsMapOf, IsMapTo, max_ranges};
+ghost use Rattle.block_map.specs.Maps.{IsMap, IsMapOf, IsMapTo, max_ranges};
 ghost use Rattle.outside.specs.Counts.{NoneFell};
 ghost use Rattle.outside.specs.Files.{IsThere, bytes_of};
 ghost use Rattle.region_pool.specs.Buffers.{free_of};

@@ -1,5 +1,5 @@
 //! The whole of it.
-ghost use Rattle.std.specs.Prelude.{◌≡◌, ℕ, ◌<◌, All, IfErr, IfOk, IsOkAnd, length};
+ghost use Rattle.std.specs.Prelude.{ℕ, ◌<◌, All, IfErr, IfOk, IsOkAnd, length};
 ghost use Rattle.base_fields.specs.Numbers.{IsPowerBetween};
 ghost use Rattle.image_graph.specs.IsGraph.{IsGraph};
 ghost use Rattle.image_specs.specs.IsSpec.{IsSpec};
@@ -95,7 +95,15 @@ fn map_spec<F: Files>(
     ensures others { OthersStay out.now (F.file files.old) (F.file files.new) }
 {
     let measured = measure(alloc, files, number, spec)?;
-    let map = map_measured(alloc, files, number, spec.full.text(), &measured, block, pool)?;
+    let map = map_measured(
+        alloc,
+        files,
+        number,
+        spec.full.text(),
+        &measured,
+        block,
+        pool,
+    )?;
     write_map(alloc, files, &map, out)?;
     Ok(Mapped {
         ranges: map.ranges.len() as u64,

@@ -160,12 +160,7 @@ fn length_of<F: Files>(files: &mut F, number: u32, spec: &ImageSpec) -> Result<u
 }
 
 // All of so many bytes, where an image may have as many.
-fn all_of(
-    alloc: Global,
-    number: u32,
-    spec: &ImageSpec,
-    size: u64,
-) -> Result<Measured, MappingFault>
+fn all_of(alloc: Global, number: u32, spec: &ImageSpec, size: u64) -> Result<Measured, MappingFault>
     ensures measured { (bytes : List ℕ) → length bytes ≡ size
         → IfOk result (λ measured. IsOkAnd (whole_said number spec.now bytes) (IsMeasured (Some bytes) measured)) }
     ensures refused { (bytes : List ℕ) → length bytes ≡ size → IfErr result (Refuses is_counted (whole_said number spec.now bytes)) }
