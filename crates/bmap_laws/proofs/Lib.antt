@@ -1,0 +1,6 @@
+-- lemmas
+mod Bytes
+mod Digests
+mod Elements
+mod Heads
+mod Values
