@@ -1,6 +1,12 @@
 -- lemmas
 mod Bytes
 mod Digests
+mod Ending
 mod Elements
+mod Fronts
 mod Heads
+mod RangeLines
+mod Reading
+mod Rising
+mod States
 mod Values
