@@ -5,8 +5,10 @@ mod Ending
 mod Elements
 mod Fronts
 mod Heads
+mod Lines
 mod RangeLines
 mod Reading
 mod Rising
 mod States
+mod TheLaw
 mod Values

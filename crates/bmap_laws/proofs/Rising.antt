@@ -1,6 +1,6 @@
 -- The ranges of a map, one behind another.
 use Rattle.std.proofs.Common.{◌≡◌, ℕ, zero, suc, ◌+◌, ◌-◌, ◌*◌, ◌^◌, ◌<◌, ◌≤◌, List, [], ◌∷◌, ◌++◌, length, get_or, All, AllPairs}
-use Rattle.std.proofs.Common.{Option, Some, IfSome, ap, arith, length-append, lt_of_mul-lt-mul_right, lt_of_lt_of_le, mul-le-mul_left, refl, slice_get, ◌∙◌}
+use Rattle.std.proofs.Common.{Option, Some, IfSome, ap, append-nil, append_assoc, arith, length-append, lt_of_mul-lt-mul_right, lt_of_lt_of_le, mul-le-mul_left, refl, slice_get, subst, sym, ◌∙◌}
 use Rattle.std.proofs.lemmas.Grind.{div_ceil_times}
 use Rattle.std.proofs.lemmas.List.Sums.{sum_by-cons}
 use Rattle.std.specs.Int.{div_ceil}
@@ -73,6 +73,20 @@ next_behind done r =
     let long = length-append done (r ∷ []) in
     let place : length (done ++ r ∷ []) - 1 ≡ length done = omega (arith, long) in
     ap (λ (k : ℕ). block_behind (slice_get (done ++ r ∷ []) k)) place ∙ ap block_behind (last_there done r)
+
+-- and behind all of them it may at most begin at the end
+pub next_below : (done rs : List Range) (end : ℕ) → next_of done ≤ end → Rise (next_of done) end rs →
+    next_of (done ++ rs) ≤ end
+next_below done [] end within h =
+    let same : next_of (done ++ []) ≡ next_of done = ap next_of (append-nil done) in
+    omega (arith, same, within)
+next_below done (r ∷ rs) end within h =
+    let behind = next_behind done r in
+    let on : Rise (next_of (done ++ r ∷ [])) end rs = subst (λ (n : ℕ). Rise n end rs) (sym behind) h.3 in
+    let more = next_below (done ++ r ∷ []) rs end (omega (arith, behind, h.2)) on in
+    let together : next_of ((done ++ r ∷ []) ++ rs) ≡ next_of (done ++ r ∷ rs) =
+    ap next_of (append_assoc done (r ∷ []) rs) in
+    omega (arith, together, more)
 
 -- ---- digests, one by one
 

@@ -1,4 +1,5 @@
-//! Laws of the texts of block maps: the text that is written for a map is a document of that map.
+//! Laws of block maps that are written and read: the text that is written for a map is a document of that map, and so
+//! it is read back as it.
 #![tactic(auto)]
 
 mod laws;
