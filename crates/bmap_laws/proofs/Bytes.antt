@@ -1,6 +1,6 @@
 -- Runs of bytes that pass a test.
-use Rattle.std.proofs.Common.{◌≡◌, ℕ, suc, ◌+◌, ◌-◌, ◌<◌, ◌≤◌, ◌≢◌, ◌==◌, ◌||◌, ◌&&◌, Bool, true, false, not, nat_lt}
-use Rattle.std.proofs.Common.{List, [], ◌∷◌, ◌++◌, length, reverse, Some, None, All, position, refl, ap, subst, sym, ◌∙◌, arith}
+use Rattle.std.proofs.Common.{◌≡◌, ℕ, suc, ◌+◌, ◌≤◌, ◌≢◌, ◌==◌, ◌&&◌, Bool, true, false, not, nat_lt}
+use Rattle.std.proofs.Common.{List, [], ◌∷◌, ◌++◌, length, reverse, Some, None, All, position, refl, ap, subst, sym, arith}
 use Rattle.std.proofs.Common.{length-append, lt-ltb, le-leb, ne_eqb}
 use Rattle.std.proofs.lemmas.Bool.{le-ltb}
 use Rattle.std.proofs.lemmas.List.{reverse-append}
@@ -8,7 +8,7 @@ use Rattle.std.proofs.lemmas.Str.Parse.{digit_from_value}
 use Rattle.std.specs.Char.{is_ascii_digit}
 use Rattle.std.specs.List.{AllByRecursion, list_all, position_or_len, prefix_len}
 use Rattle.std.specs.Str.Parse.{AllDigits}
-use Rattle.bmap_grammar.specs.Text.{is_space, spaces}
+use Rattle.bmap_grammar.specs.Text.{is_space}
 
 -- each byte passes
 abbrev pub Pass : (ℕ → Bool) → List ℕ → Type 0

@@ -1,6 +1,6 @@
 -- Digests as hexadecimal digits, and the digest of a text.
-use Rattle.std.proofs.Common.{◌≡◌, ℕ, zero, suc, ◌+◌, ◌*◌, ◌^◌, ◌<◌, ◌≢◌, ◌==◌, Bool, true, false, not, List, [], ◌∷◌, ◌++◌}
-use Rattle.std.proofs.Common.{length, slice_index, Ok, Some, IsOk, refl, ap, sym, ◌∙◌, arith, true≢false, ne_eqb, w32}
+use Rattle.std.proofs.Common.{◌≡◌, ℕ, zero, suc, ◌*◌, ◌<◌, ◌≢◌, ◌==◌, Bool, true, false, List, [], ◌∷◌, ◌++◌}
+use Rattle.std.proofs.Common.{length, slice_index, Some, IsOk, refl, ap, sym, ◌∙◌, arith, true≢false, ne_eqb, w32}
 use Rattle.std.specs.Int.{bytes_high_first, byte_at, to_be_bytes}
 use Rattle.std.specs.List.{AllByRecursion, AllPass}
 use Rattle.std.specs.Result.{result_ok}

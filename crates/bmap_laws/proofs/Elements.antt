@@ -1,6 +1,6 @@
 -- The elements that are written, as the grammar reads them: the length of each opening tag with its `>`, and of each
 -- closing tag, are numerals.
-use Rattle.std.proofs.Common.{◌≡◌, ℕ, ◌+◌, ◌^◌, ◌<◌, List, [], ◌∷◌, ◌++◌, length, take, drop, decimal, codes, Option, Some, option_map}
+use Rattle.std.proofs.Common.{◌≡◌, ℕ, ◌+◌, ◌^◌, ◌<◌, List, ◌∷◌, ◌++◌, length, take, drop, decimal, codes, Option, Some, option_map}
 use Rattle.std.proofs.Common.{ap, append_assoc, arith, length-append, refl, ◌∙◌}
 use Rattle.hex.specs.Hex.{encode_lower}
 use Rattle.bmap_grammar.specs.Items.{block_size_at, blocks_count_at, image_size_at, mapped_count_at, sized, sum_at, sum_in, type_at}
@@ -10,9 +10,8 @@ use Rattle.bmap_grammar.specs.declared.items.Held.{Held}
 use Rattle.bmap_grammar.specs.declared.items.Item.TheVariants as item
 use Rattle.bmap_grammar.specs.declared.items.Piece.{Piece}
 use Rattle.bmap_laws.specs.Digests.{IsDigest}
-use Rattle.bmap_laws.proofs.Bytes.{Pass, is_plain}
 use Rattle.bmap_laws.proofs.Digests.{digest_long, digest_plain, digest_read}
-use Rattle.bmap_laws.proofs.Values.{IsElement, decimal_number, decimal_plain, decimal_some, element_held, held_at, number_read, value_there}
+use Rattle.bmap_laws.proofs.Values.{IsElement, decimal_number, decimal_plain, decimal_some, element_held, number_read, value_there}
 
 -- a value between an opening tag, with its space, and a closing one, with its space
 abbrev pub around : List ℕ → List ℕ → List ℕ → List ℕ

@@ -1,19 +1,16 @@
 -- The map of a text in which all has stood.
-use Rattle.std.proofs.Common.{◌≡◌, ℕ, ◌+◌, ◌≤◌, ◌==◌, true, nat_eq, nat_le, List, [], ◌∷◌, ◌++◌, length, take, drop, replicate, Result, Ok, codes}
+use Rattle.std.proofs.Common.{◌≡◌, ℕ, ◌+◌, ◌≤◌, true, nat_eq, nat_le, List, [], ◌∷◌, ◌++◌, length, take, drop, replicate, Ok, codes}
 use Rattle.std.proofs.Common.{ap, append_assoc, drop_at, eq-eqb, le-leb, refl, rules, sym, ◌∙◌}
 use Rattle.std.proofs.Math.Seq.{drop-append-add, take-append_seam}
 use Rattle.std.proofs.lemmas.Grind.{flat_map-append}
-use Rattle.std.specs.Int.{div_ceil}
 use Rattle.std.specs.Str.{bytes_eq}
-use Rattle.hex.specs.Hex.{encode_lower}
 use Rattle.sha2.specs.Sha256.{sha256}
 use Rattle.block_map.specs.Maps.{block_count, blocks_in}
 use Rattle.block_map.specs.declared.maps.BlockMap.{BlockMap}
-use Rattle.bmap_grammar.specs.Document.{counted, enough_blocks, map_of, same_count, same_sum, sum_of}
+use Rattle.bmap_grammar.specs.Document.{enough_blocks, map_of, same_count, same_sum, sum_of}
 use Rattle.bmap_grammar.specs.Stood.{next_of}
-use Rattle.bmap_grammar.specs.declared.faults.MapFault.{MapFault}
 use Rattle.bmap_writer.specs.Parts.{back_of, front_of}
-use Rattle.bmap_writer.specs.Written.{back_lines, closing, element, ended, front_lines, opening, text_of, text_with, written_text}
+use Rattle.bmap_writer.specs.Written.{back_lines, closing, element, ended, front_lines, opening, text_of, text_with}
 use Rattle.bmap_laws.proofs.States.{all_stood}
 use lib.Pointwise.{bytes_decides}
 

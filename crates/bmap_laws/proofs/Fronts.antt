@@ -1,5 +1,5 @@
 -- Which item stands at the front of each line that is written.
-use Rattle.std.proofs.Common.{◌≡◌, ℕ, suc, ◌+◌, ◌^◌, ◌<◌, ◌==◌, List, [], ◌∷◌, ◌++◌, length, decimal, codes, Option, Some, None}
+use Rattle.std.proofs.Common.{◌≡◌, ℕ, ◌^◌, ◌<◌, ◌==◌, List, [], ◌∷◌, ◌++◌, length, decimal, codes, Option, Some, None}
 use Rattle.std.proofs.Common.{ap, arith, lt-ltb, nat_lt, option_map, position, refl, true, ◌∙◌}
 use Rattle.hex.specs.Hex.{encode_lower}
 use Rattle.bmap_grammar.specs.Items.{bare_head, blank_at, block_size_at, blocks_count_at, comment_at, count_at, declaration_at}
@@ -7,7 +7,6 @@ use Rattle.bmap_grammar.specs.Items.{digest_head, element_at, end_at, image_size
 use Rattle.bmap_grammar.specs.Items.{range_at, sized, start_at, start_item, sum_at, tag_at, type_at}
 use Rattle.bmap_grammar.specs.Text.{◌>>=◌, between_quotes, ended, is_space, moved, or_next, spaces, value_in}
 use Rattle.bmap_grammar.specs.declared.items.Field.TheVariants as field
-use Rattle.bmap_grammar.specs.declared.items.Held.{Held}
 use Rattle.bmap_grammar.specs.declared.items.Item.TheVariants as item
 use Rattle.bmap_grammar.specs.declared.items.Piece.{Piece}
 use Rattle.bmap_laws.specs.Digests.{IsDigest}

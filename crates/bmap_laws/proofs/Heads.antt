@@ -1,20 +1,19 @@
 -- The opening tag of a range, and the range behind it.
-use Rattle.std.proofs.Common.{◌≡◌, ℕ, ◌+◌, ◌^◌, ◌<◌, ◌==◌, List, [], ◌∷◌, ◌++◌, length, take, drop, codes, Option, Some, None, option_map}
-use Rattle.std.proofs.Common.{ap, append_assoc, arith, length-append, position, refl, sym, subst, ◌∙◌, take_at}
-use Rattle.std.proofs.Math.Seq.{drop-append-add, drop-append_seam, take-append_seam}
-use Rattle.std.specs.Prelude.{IfSome}
+use Rattle.std.proofs.Common.{◌≡◌, ℕ, ◌+◌, ◌^◌, ◌<◌, List, ◌∷◌, ◌++◌, length, take, drop, codes, Option, Some, None, option_map}
+use Rattle.std.proofs.Common.{ap, arith, position, refl, sym, ◌∙◌, take_at}
+use Rattle.std.proofs.Math.Seq.{drop-append-add, take-append_seam}
 use Rattle.hex.specs.Hex.{encode_lower}
 use Rattle.block_map.specs.declared.maps.Range.{Range}
-use Rattle.bmap_grammar.specs.Items.{bare_head, blocks_in, digest_head, digest_in, range_at, range_behind, range_with, sized, spaced_sum}
-use Rattle.bmap_grammar.specs.Text.{◌>>=◌, assigned, attribute_of, between_quotes, blocks_of, closed, digest_of, end_len, ended}
-use Rattle.bmap_grammar.specs.Text.{moved, or_next, tag_with, valued}
+use Rattle.bmap_grammar.specs.Items.{bare_head, blocks_in, digest_head, digest_in, range_at, range_behind, range_with, sized}
+use Rattle.bmap_grammar.specs.Text.{◌>>=◌, attribute_of, between_quotes, blocks_of, closed, digest_of, end_len, ended}
+use Rattle.bmap_grammar.specs.Text.{moved, or_next, tag_with}
 use Rattle.bmap_grammar.specs.declared.items.Head.{Head}
 use Rattle.bmap_grammar.specs.declared.items.Held.{Held}
 use Rattle.bmap_grammar.specs.declared.items.Item.TheVariants as item
 use Rattle.bmap_grammar.specs.declared.items.Piece.{Piece}
-use Rattle.bmap_writer.specs.Written.{attribute, range_blocks}
+use Rattle.bmap_writer.specs.Written.{range_blocks}
 use Rattle.bmap_laws.specs.Digests.{IsDigest}
-use Rattle.bmap_laws.proofs.Bytes.{Pass, found, is_plain, other}
+use Rattle.bmap_laws.proofs.Bytes.{Pass, found, other}
 use Rattle.bmap_laws.proofs.Digests.{digest_long, digest_read, digest_unquoted, is_double}
 use Rattle.bmap_laws.proofs.Values.{blocks_plain, blocks_read, valued_spaced}
 

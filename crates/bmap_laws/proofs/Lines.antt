@@ -1,5 +1,5 @@
 -- The lines in front of the ranges and behind them.
-use Rattle.std.proofs.Common.{◌≡◌, ℕ, ◌+◌, ◌^◌, ◌<◌, ◌≤◌, List, [], ◌∷◌, ◌++◌, length, codes, decimal, arith, append_assoc, refl, subst, sym}
+use Rattle.std.proofs.Common.{ℕ, ◌+◌, ◌^◌, ◌<◌, ◌≤◌, List, [], ◌∷◌, ◌++◌, length, codes, decimal, arith, append_assoc, refl, subst, sym}
 use Rattle.hex.specs.Hex.{encode_lower}
 use Rattle.base_fields.specs.Numbers.{IsPowerBetween}
 use Rattle.block_map.specs.Maps.{block_count, blocks_in}

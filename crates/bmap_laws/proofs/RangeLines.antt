@@ -1,24 +1,23 @@
 -- The lines of the ranges.
-use Rattle.std.proofs.Common.{◌≡◌, ℕ, ◌+◌, ◌-◌, ◌^◌, ◌<◌, ◌≤◌, List, [], ◌∷◌, ◌++◌, length, drop, map, codes, Option, Some, None, Ok, IfSome}
+use Rattle.std.proofs.Common.{◌≡◌, ℕ, ◌+◌, ◌-◌, ◌^◌, ◌<◌, ◌≤◌, List, [], ◌∷◌, ◌++◌, length, drop, map, codes, Option, Some, None, IfSome}
 use Rattle.std.proofs.Common.{ap, append-nil, append_assoc, arith, length-append, refl, rules, subst, sym, ◌∙◌}
 use Rattle.std.proofs.Math.Seq.{drop-append-add}
 use Rattle.std.specs.List.{AllByRecursion}
 use Rattle.hex.specs.Hex.{encode_lower}
-use Rattle.block_map.specs.Maps.{block_count, max_ranges}
+use Rattle.block_map.specs.Maps.{max_ranges}
 use Rattle.block_map.specs.declared.maps.BlockMap.{BlockMap}
 use Rattle.block_map.specs.declared.maps.Range.{Range}
 use Rattle.bmap_grammar.specs.Items.{piece_of, range_at, sized}
 use Rattle.bmap_grammar.specs.Stood.{next_of}
 use Rattle.bmap_grammar.specs.Text.{is_space}
 use Rattle.bmap_grammar.specs.declared.items.Item.TheVariants as item
-use Rattle.bmap_grammar.specs.declared.items.Piece.{Piece}
 use Rattle.bmap_grammar.specs.declared.stood.Stood.{Stood}
 use Rattle.bmap_writer.specs.Written.{attribute, ended, range_blocks, range_line, text_of}
 use Rattle.bmap_laws.specs.Digests.{IsDigest}
 use Rattle.bmap_laws.proofs.Bytes.{Pass}
 use Rattle.bmap_laws.proofs.Digests.{digest_long}
 use Rattle.bmap_laws.proofs.Fronts.{range_first}
-use Rattle.bmap_laws.proofs.Heads.{bare_head_found, digest_head_found, head_text, piece_with, range_found, range_tail}
+use Rattle.bmap_laws.proofs.Heads.{bare_head_found, digest_head_found, head_text, range_found, range_tail}
 use Rattle.bmap_laws.proofs.Reading.{Reads, line_read}
 use Rattle.bmap_laws.proofs.Rising.{Rise, next_behind}
 use Rattle.bmap_laws.proofs.States.{in_map, range_stands}

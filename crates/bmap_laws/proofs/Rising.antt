@@ -1,6 +1,6 @@
 -- The ranges of a map, one behind another.
-use Rattle.std.proofs.Common.{◌≡◌, ℕ, zero, suc, ◌+◌, ◌-◌, ◌*◌, ◌^◌, ◌<◌, ◌≤◌, List, [], ◌∷◌, ◌++◌, length, get_or, All, AllPairs}
-use Rattle.std.proofs.Common.{Option, Some, IfSome, ap, append-nil, append_assoc, arith, length-append, lt_of_mul-lt-mul_right, lt_of_lt_of_le, mul-le-mul_left, refl, slice_get, subst, sym, ◌∙◌}
+use Rattle.std.proofs.Common.{◌≡◌, ℕ, suc, ◌+◌, ◌-◌, ◌*◌, ◌^◌, ◌<◌, ◌≤◌, List, [], ◌∷◌, ◌++◌, length, get_or, All, AllPairs}
+use Rattle.std.proofs.Common.{Some, IfSome, ap, append-nil, append_assoc, arith, length-append, lt_of_mul-lt-mul_right, lt_of_lt_of_le, mul-le-mul_left, refl, slice_get, subst, sym, ◌∙◌}
 use Rattle.std.proofs.lemmas.Grind.{div_ceil_times}
 use Rattle.std.proofs.lemmas.List.Sums.{sum_by-cons}
 use Rattle.std.specs.Int.{div_ceil}

@@ -1,5 +1,5 @@
 -- What has stood behind each line that is written.
-use Rattle.std.proofs.Common.{◌≡◌, ℕ, ◌+◌, ◌-◌, ◌^◌, ◌<◌, ◌≤◌, true, nat_le, nat_lt, List, [], ◌∷◌, ◌++◌, length, Some, Ok, refl, arith, le-leb, lt-ltb, decimal}
+use Rattle.std.proofs.Common.{◌≡◌, ℕ, ◌+◌, ◌-◌, ◌^◌, ◌<◌, ◌≤◌, true, List, [], ◌∷◌, ◌++◌, length, Some, Ok, refl, le-leb, lt-ltb}
 use Rattle.base_fields.proofs.Between.{power_between_passes}
 use Rattle.base_fields.specs.Numbers.{IsPowerBetween, is_power_between}
 use Rattle.block_map.specs.Maps.{block_count, blocks_in, max_ranges}
@@ -8,7 +8,7 @@ use Rattle.block_map.specs.declared.maps.Range.{Range}
 use Rattle.bmap_grammar.specs.Stood.{may_follow, next_of, nothing, stands}
 use Rattle.bmap_grammar.specs.declared.items.Field.TheVariants as field
 use Rattle.bmap_grammar.specs.declared.items.Item.TheVariants as item
-use Rattle.bmap_grammar.specs.declared.stood.Stage.TheVariants.{Nothing, Front, Inside, Map, Behind}
+use Rattle.bmap_grammar.specs.declared.stood.Stage.TheVariants.{Front, Inside, Map, Behind}
 use Rattle.bmap_grammar.specs.declared.stood.Stood.{Stood}
 use Rattle.bmap_laws.proofs.Reading.{spaced_out}
 

@@ -1,30 +1,29 @@
 -- The text that is written for a map is a document of it.
-use Rattle.std.proofs.Common.{◌≡◌, ℕ, ◌+◌, ◌-◌, ◌^◌, ◌<◌, ◌≤◌, List, [], ◌∷◌, ◌++◌, length, map, replicate, codes, decimal, Result, Ok}
-use Rattle.std.proofs.Common.{ap, arith, length-append, refl, subst, sym, ◌∙◌}
+use Rattle.std.proofs.Common.{◌≡◌, ℕ, ◌+◌, List, [], ◌∷◌, ◌++◌, length, map, replicate, codes, Result, Ok}
+use Rattle.std.proofs.Common.{ap, arith, length-append, subst, sym, ◌∙◌}
 use Rattle.hex.specs.Hex.{encode_lower}
 use Rattle.sha2.specs.Sha256.{sha256}
 use Rattle.base_fields.specs.Results.{◌>>=◌}
-use Rattle.block_map.specs.Maps.{IsMap, block_count, blocks_in}
+use Rattle.block_map.specs.Maps.{IsMap, block_count}
 use Rattle.block_map.specs.declared.maps.BlockMap.{BlockMap}
-use Rattle.block_map.specs.declared.maps.Range.{Range}
-use Rattle.bmap_grammar.specs.Document.{BmapText, map_of, said, sum_of}
-use Rattle.bmap_grammar.specs.Stood.{next_of, nothing}
+use Rattle.bmap_grammar.specs.Document.{map_of}
+use Rattle.bmap_grammar.specs.Stood.{nothing}
 use Rattle.bmap_grammar.specs.declared.faults.MapFault.{MapFault}
 use Rattle.bmap_grammar.specs.declared.stood.Stood.{Stood}
 use Rattle.bmap_reader.proofs.Said.{bmap_said}
 use Rattle.bmap_writer.specs.Parts.{front_of}
-use Rattle.bmap_writer.specs.Written.{back_lines, element, ended, front_lines, mapped_line, opening, range_line, text_of, text_with, written_text}
+use Rattle.bmap_writer.specs.Written.{back_lines, ended, front_lines, mapped_line, opening, range_line, text_of, text_with, written_text}
 use Rattle.bmap_laws.specs.Digests.{HasDigests, IsDigest}
 use Rattle.bmap_laws.specs.Laws.{WrittenTextsAreDocuments, WrittenTextsSayTheirMap}
 use Rattle.bmap_laws.proofs.Digests.{digest_long, sum_is_digest}
 use Rattle.bmap_laws.proofs.Ending.{map_found, sum_there}
 use Rattle.bmap_laws.proofs.Lines.{back_read, block_line, block_read, count_line, count_read, declaration_line, declaration_read}
-use Rattle.bmap_laws.proofs.Lines.{end_line, map_end_line, map_line, map_read, mapped_read, size_line, size_read, start_line, start_read}
+use Rattle.bmap_laws.proofs.Lines.{end_line, map_end_line, map_read, mapped_read, size_line, size_read, start_line, start_read}
 use Rattle.bmap_laws.proofs.Lines.{sum_line, sum_read, type_line, type_read}
 use Rattle.bmap_laws.proofs.RangeLines.{ranges_read}
 use Rattle.bmap_laws.proofs.Reading.{Reads}
-use Rattle.bmap_laws.proofs.Rising.{Rise, blocks_below, digests_of, few_blocks, map_rises, next_behind, next_below}
-use Rattle.bmap_laws.proofs.States.{all_stood, in_map, with_mapped, with_sum, with_type}
+use Rattle.bmap_laws.proofs.Rising.{blocks_below, digests_of, few_blocks, map_rises, next_below}
+use Rattle.bmap_laws.proofs.States.{all_stood, with_mapped, with_sum}
 
 -- ---- from the end to the front
 

@@ -1,24 +1,23 @@
 -- Values between tags.
 use Rattle.std.proofs.Common.{◌≡◌, ℕ, ◌+◌, ◌-◌, ◌^◌, ◌<◌, ◌≤◌, ◌==◌, Bool, true, false, not, nat_eq, nat_le, nat_lt, List, [], ◌∷◌, ◌++◌}
-use Rattle.std.proofs.Common.{length, take, drop, reverse, decimal, codes, Option, Some, None, option_map, position, refl, ap, sym, ◌∙◌}
+use Rattle.std.proofs.Common.{length, take, drop, reverse, decimal, Option, Some, option_map, position, refl, ap, sym, ◌∙◌}
 use Rattle.std.proofs.Common.{append_assoc, arith, drop-drop, eqb-true, length-append, le-leb, lt-ltb, ne_eqb}
 use Rattle.std.proofs.Math.Seq.{drop-append_seam, take-append_seam, drop-append-add}
 use Rattle.std.proofs.lemmas.Fmt.{decimal_is_IsNumeral, length-decimal-le}
 use Rattle.std.proofs.lemmas.List.{reverse-append}
 use Rattle.std.specs.Char.{is_ascii_digit}
 use Rattle.std.specs.List.{list_all, prefix_len}
-use Rattle.std.specs.Str.Parse.{digits_value}
 use Rattle.block_map.specs.declared.maps.Range.{Range}
 use Rattle.bmap_grammar.specs.Items.{number_at, number_in, sized}
 use Rattle.bmap_grammar.specs.Text.{◌>>=◌, bare_in, blocks_by, blocks_of, element_of, inside_len, is_space, moved, number_of}
-use Rattle.bmap_grammar.specs.Text.{pair_of, spaces, spaces_behind, tag_len, value_in, valued}
+use Rattle.bmap_grammar.specs.Text.{spaces, spaces_behind, tag_len, valued}
 use Rattle.bmap_grammar.specs.declared.items.Field.{Field}
 use Rattle.bmap_grammar.specs.declared.items.Held.{Held}
 use Rattle.bmap_grammar.specs.declared.items.Item.TheVariants as item
 use Rattle.bmap_grammar.specs.declared.items.Piece.{Piece}
 use Rattle.bmap_writer.specs.Written.{range_blocks}
 use Rattle.bmap_laws.proofs.Bytes.{Pass, digits_all, digits_pass, digits_plain, found, is_plain, no_run, not_found, other}
-use Rattle.bmap_laws.proofs.Bytes.{pass_both, pass_reverse, pass_so, plain_inside, plain_space, above_plain, run_ends}
+use Rattle.bmap_laws.proofs.Bytes.{pass_both, pass_reverse, pass_so, plain_inside, plain_space, run_ends}
 
 -- ---- a value with a space on each side
 

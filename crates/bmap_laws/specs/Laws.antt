@@ -1,9 +1,8 @@
 -- The laws of block maps that are written and read.
-use Rattle.std.specs.Prelude.{◌≡◌, List, Ok, Result}
+use Rattle.std.specs.Prelude.{◌≡◌, Ok}
 use Rattle.block_map.specs.Maps.{IsMap}
 use Rattle.block_map.specs.declared.maps.BlockMap.{BlockMap}
-use Rattle.bmap_grammar.specs.Document.{Answers, BmapText, said}
-use Rattle.bmap_grammar.specs.declared.faults.MapFault.{MapFault}
+use Rattle.bmap_grammar.specs.Document.{BmapText, said}
 use Rattle.bmap_writer.specs.Written.{written_text}
 use Rattle.bmap_laws.specs.Digests.{HasDigests}
 
