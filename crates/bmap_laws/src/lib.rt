@@ -3,5 +3,7 @@
 #![tactic(auto)]
 
 mod laws;
+mod returning;
 
 pub use laws::written_maps_are_read;
+pub use returning::read_back;
