@@ -25,7 +25,8 @@ pass_so p q (b ∷ bytes) so h = (so b h.0, pass_so p q bytes so h.1)
 pub pass_reverse : (p : ℕ → Bool) (bytes : List ℕ) → Pass p bytes → Pass p (reverse bytes)
 pass_reverse p [] h = tt
 pass_reverse p (b ∷ bytes) h =
-    subst (Pass p) (sym (reverse-append (b ∷ []) bytes)) (pass_both p (reverse bytes) (b ∷ []) (pass_reverse p bytes h.1) (h.0, tt))
+    subst (Pass p) (sym (reverse-append (b ∷ []) bytes))
+    (pass_both p (reverse bytes) (b ∷ []) (pass_reverse p bytes h.1) (h.0, tt))
 
 -- ---- how far the test passes
 
@@ -61,7 +62,8 @@ pub found : (p : ℕ → Bool) (front : List ℕ) (b : ℕ) (back : List ℕ) �
 found p front b back h e =
     let at : position_or_len p (front ++ b ∷ back) ≡ length front = run_ends (other p) front b back h (ap not e) in
     let long = length-append front (b ∷ back) in
-    let within : nat_lt (length front) (length (front ++ b ∷ back)) ≡ true = lt-ltb (length front) (length (front ++ b ∷ back)) (omega (arith, long)) in
+    let within : nat_lt (length front) (length (front ++ b ∷ back)) ≡ true =
+    lt-ltb (length front) (length (front ++ b ∷ back)) (omega (arith, long)) in
     rw at (rw within refl)
 
 pub not_found : (p : ℕ → Bool) (bytes : List ℕ) → Pass (other p) bytes → position p bytes ≡ None
@@ -83,7 +85,13 @@ plain_inside b h = grind arith
 
 pub above_plain : (b : ℕ) → 33 ≤ b → b ≢ 60 → is_plain b ≡ true
 above_plain b h n =
-    rw (ne_eqb b 32 (omega arith), ne_eqb b 9 (omega arith), ne_eqb b 10 (omega arith), ne_eqb b 13 (omega arith), ne_eqb b 60 n) refl
+    rw (
+      ne_eqb b 32 (omega arith),
+      ne_eqb b 9 (omega arith),
+      ne_eqb b 10 (omega arith),
+      ne_eqb b 13 (omega arith),
+      ne_eqb b 60 n,
+    ) refl
 
 -- ---- digits
 
@@ -109,8 +117,8 @@ digits_all digits h = all_pass is_ascii_digit digits (digits_pass is_ascii_digit
 
 -- ---- elements by number and one by one
 
-pub pass_from_all : (p q : ℕ → Bool) (bytes : List ℕ) → ((b : ℕ) → q b ≡ true → p b ≡ true) → All (λ b. q b ≡ true) bytes →
-    Pass p bytes
+pub pass_from_all : (p q : ℕ → Bool) (bytes : List ℕ) → ((b : ℕ) → q b ≡ true → p b ≡ true) →
+    All (λ b. q b ≡ true) bytes → Pass p bytes
 pass_from_all p q [] so h = tt
 pass_from_all p q (b ∷ bytes) so h =
     (so b (h 0 b (omega arith)), pass_from_all p q bytes so (λ k d within. h (suc k) d (omega (arith, within))))

@@ -166,6 +166,6 @@ sum_found digest rest h =
     let both = length-append value (codes " </BmapFileChecksum>") in
     ap (λ (o : Option Held). o >>= sum_in text)
     (element_held (codes "<BmapFileChecksum") (codes "</BmapFileChecksum") text value tail 18 19 element)
-    ∙ (sum_held text value digest 18 (18 + (length value + 2 + 19)) (value_there text value (32 ∷ 60 ∷ tail) 18 element.holds)
-    (digest_read digest h)
+    ∙ (sum_held text value digest 18 (18 + (length value + 2 + 19))
+    (value_there text value (32 ∷ 60 ∷ tail) 18 element.holds) (digest_read digest h)
     ∙ ap (λ (k : ℕ). Some (sized (item.Checksum 19 digest) k)) (omega (arith, both)))

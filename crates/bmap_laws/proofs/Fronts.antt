@@ -7,6 +7,7 @@ use Rattle.bmap_grammar.specs.Items.{digest_head, element_at, end_at, image_size
 use Rattle.bmap_grammar.specs.Items.{range_at, sized, start_at, start_item, sum_at, tag_at, type_at}
 use Rattle.bmap_grammar.specs.Text.{◌>>=◌, between_quotes, ended, is_space, moved, or_next, spaces, value_in}
 use Rattle.bmap_grammar.specs.declared.items.Field.TheVariants as field
+use Rattle.bmap_grammar.specs.declared.items.Held.{Held}
 use Rattle.bmap_grammar.specs.declared.items.Item.TheVariants as item
 use Rattle.bmap_grammar.specs.declared.items.Piece.{Piece}
 use Rattle.bmap_laws.specs.Digests.{IsDigest}
@@ -43,9 +44,9 @@ start_found rest =
     let text : List ℕ = codes "<bmap version=\"2.0\">" ++ rest in
     let place : position (λ b. b == 34) (codes "2.0" ++ 34 ∷ 62 ∷ rest) ≡ Some 3 =
     found (λ b. b == 34) (codes "2.0") 34 (62 ∷ rest) (refl, (refl, (refl, tt))) refl in
-    let made : Option ℕ → Option Piece =
-    λ o. option_map (λ h. sized (start_item (value_in text h)) h.len) (moved 13 (moved 0 (moved 1 (moved 0 (option_map between_quotes o)))) >>= ended text) in
-    ap made place
+    let held : Option ℕ → Option Held =
+    λ o. moved 13 (moved 0 (moved 1 (moved 0 (option_map between_quotes o)))) >>= ended text in
+    ap (λ (o : Option ℕ). option_map (λ h. sized (start_item (value_in text h)) h.len) (held o)) place
 
 start_first : (rest : List ℕ) (p : Piece) → start_at (codes "<bmap version" ++ rest) ≡ Some p →
     piece_of (codes "<bmap version" ++ rest) ≡ Some p
@@ -92,9 +93,18 @@ range_first rest p h =
 
 -- ---- the elements
 
+-- what doesn't stand at the front of an element
+tags : Unit {0}
+unfolding comment_at declaration_at start_at end_at map_start_at map_end_at bare_head digest_head
+tags = tt
+
+numbers : Unit {0}
+unfolding image_size_at block_size_at blocks_count_at mapped_count_at
+numbers = tt
+
 size_first : (rest : List ℕ) (p : Piece) → image_size_at (codes "<ImageSize" ++ rest) ≡ Some p →
     piece_of (codes "<ImageSize" ++ rest) ≡ Some p
-unfolding comment_at declaration_at start_at end_at map_start_at map_end_at bare_head digest_head
+unfolding tags
 size_first rest p h = rw h refl
 
 pub size_piece : (n : ℕ) (rest : List ℕ) → n < 2 ^ 64 →
@@ -106,7 +116,7 @@ size_piece n rest h =
 
 block_first : (rest : List ℕ) (p : Piece) → block_size_at (codes "<BlockSize" ++ rest) ≡ Some p →
     piece_of (codes "<BlockSize" ++ rest) ≡ Some p
-unfolding comment_at declaration_at start_at end_at map_start_at map_end_at bare_head digest_head image_size_at
+unfolding tags image_size_at
 block_first rest p h = rw h refl
 
 pub block_piece : (n : ℕ) (rest : List ℕ) → n < 2 ^ 64 →
@@ -118,7 +128,7 @@ block_piece n rest h =
 
 count_first : (rest : List ℕ) (p : Piece) → blocks_count_at (codes "<BlocksCount" ++ rest) ≡ Some p →
     piece_of (codes "<BlocksCount" ++ rest) ≡ Some p
-unfolding comment_at declaration_at start_at end_at map_start_at map_end_at bare_head digest_head image_size_at block_size_at
+unfolding tags image_size_at block_size_at
 count_first rest p h = rw h refl
 
 pub count_piece : (n : ℕ) (rest : List ℕ) → n < 2 ^ 64 →
@@ -130,7 +140,7 @@ count_piece n rest h =
 
 mapped_first : (rest : List ℕ) (p : Piece) → mapped_count_at (codes "<MappedBlocksCount" ++ rest) ≡ Some p →
     piece_of (codes "<MappedBlocksCount" ++ rest) ≡ Some p
-unfolding comment_at declaration_at start_at end_at map_start_at map_end_at bare_head digest_head image_size_at block_size_at blocks_count_at
+unfolding tags image_size_at block_size_at blocks_count_at
 mapped_first rest p h = rw h refl
 
 pub mapped_piece : (n : ℕ) (rest : List ℕ) → n < 2 ^ 64 →
@@ -142,7 +152,7 @@ mapped_piece n rest h =
 
 type_first : (rest : List ℕ) (p : Piece) → type_at (codes "<ChecksumType" ++ rest) ≡ Some p →
     piece_of (codes "<ChecksumType" ++ rest) ≡ Some p
-unfolding comment_at declaration_at start_at end_at map_start_at map_end_at bare_head digest_head image_size_at block_size_at blocks_count_at mapped_count_at
+unfolding tags numbers
 type_first rest p h = rw h refl
 
 pub type_piece : (rest : List ℕ) → piece_of (type_tag ++ rest) ≡ Some (sized item.ChecksumType (length type_tag))
@@ -151,7 +161,7 @@ type_piece rest =
 
 sum_first : (rest : List ℕ) (p : Piece) → sum_at (codes "<BmapFileChecksum" ++ rest) ≡ Some p →
     piece_of (codes "<BmapFileChecksum" ++ rest) ≡ Some p
-unfolding comment_at declaration_at start_at end_at map_start_at map_end_at bare_head digest_head image_size_at block_size_at blocks_count_at mapped_count_at type_at
+unfolding tags numbers type_at
 sum_first rest p h = rw h refl
 
 pub sum_piece : (digest rest : List ℕ) → IsDigest digest →

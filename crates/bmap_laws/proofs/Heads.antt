@@ -106,13 +106,16 @@ bare_head_found rest = refl
 abbrev pub range_tail : Range → List ℕ → List ℕ
 range_tail r rest = 32 ∷ (range_blocks r ++ 32 ∷ 60 ∷ (codes "/Range>" ++ rest))
 
+-- a range's blocks with this for a digest, in so many bytes
+abbrev pub sized_range : Range → Option (List ℕ) → ℕ → Piece
+sized_range r digest len = sized (item.Range (record { first = r.first; last = r.last; digest = digest })) len
+
 abbrev pub piece_with : Range → Head → Piece
-piece_with r head =
-    sized (item.Range (record { first = r.first; last = r.last; digest = head.digest })) (head.len + (length (range_blocks r) + 10))
+piece_with r head = sized_range r head.digest (head.len + (length (range_blocks r) + 10))
 
 held_blocks : (r : Range) (head : Head) (rest : List ℕ) (len : ℕ) → r.first < 2 ^ 64 → r.last < 2 ^ 64 →
     blocks_in (range_tail r rest) head (record { at = 1; count = length (range_blocks r); len = len })
-    ≡ Some (sized (item.Range (record { first = r.first; last = r.last; digest = head.digest })) (head.len + len))
+    ≡ Some (sized_range r head.digest (head.len + len))
 held_blocks r head rest len f l =
     let made : Option (ℕ × ℕ) → Option Piece =
     λ o. option_map (range_with head (record { at = 1; count = length (range_blocks r); len = len })) o in
@@ -128,7 +131,7 @@ range_behind_read r head rest f l =
     ap (λ (o : Option Held). o >>= blocks_in (range_tail r rest) head)
     (valued_spaced (codes "</Range") (codes "/Range>" ++ rest) (range_blocks r) 8 plain.1 plain.0 refl)
     ∙ (held_blocks r head rest (length (range_blocks r) + 2 + 8) f l
-    ∙ ap (λ (n : ℕ). Some (sized (item.Range (record { first = r.first; last = r.last; digest = head.digest })) (head.len + n))) long)
+    ∙ ap (λ (n : ℕ). Some (sized_range r head.digest (head.len + n))) long)
 
 -- ---- the whole
 

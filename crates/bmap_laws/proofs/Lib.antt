@@ -1,8 +1,8 @@
 -- lemmas
 mod Bytes
 mod Digests
-mod Ending
 mod Elements
+mod Ending
 mod Fronts
 mod Heads
 mod Lines

@@ -17,7 +17,7 @@ use Rattle.bmap_laws.specs.Digests.{IsDigest}
 use Rattle.bmap_laws.proofs.Bytes.{Pass}
 use Rattle.bmap_laws.proofs.Digests.{digest_long}
 use Rattle.bmap_laws.proofs.Fronts.{range_first}
-use Rattle.bmap_laws.proofs.Heads.{bare_head_found, digest_head_found, head_text, range_found, range_tail}
+use Rattle.bmap_laws.proofs.Heads.{bare_head_found, digest_head_found, head_text, range_found, range_tail, sized_range}
 use Rattle.bmap_laws.proofs.Reading.{Reads, line_read}
 use Rattle.bmap_laws.proofs.Rising.{Rise, next_behind}
 use Rattle.bmap_laws.proofs.States.{in_map, range_stands}
@@ -34,15 +34,15 @@ digest_tag digits blocks =
 
 bare_apart : (r : Range) (rest : List ℕ) →
     (60 ∷ bare_tag (range_blocks r)) ++ rest ≡ codes "<Range>" ++ range_tail r rest
-bare_apart r rest = ap (λ (xs : List ℕ). codes "<Range> " ++ xs) (append_assoc (range_blocks r) (codes " </Range>") rest)
+bare_apart r rest =
+    ap (λ (xs : List ℕ). codes "<Range> " ++ xs) (append_assoc (range_blocks r) (codes " </Range>") rest)
 
 bare_found : (r : Range) (rest : List ℕ) → r.digest ≡ None → r.first < 2 ^ 64 → r.last < 2 ^ 64 →
     range_at (codes "<Range>" ++ range_tail r rest) ≡ Some (sized (item.Range r) (7 + (length (range_blocks r) + 10)))
 bare_found r rest none f l =
     range_found (codes "<Range>" ++ range_tail r rest) r (record { digest = None; len = 7 }) rest
     (bare_head_found (range_tail r rest)) refl f l
-    ∙ ap (λ (d : Option (List ℕ)). Some (sized (item.Range (record { first = r.first; last = r.last; digest = d })) (7 + (length (range_blocks r) + 10))))
-    (sym none)
+    ∙ ap (λ (d : Option (List ℕ)). Some (sized_range r d (7 + (length (range_blocks r) + 10)))) (sym none)
 
 bare_piece : (r : Range) (rest : List ℕ) → r.digest ≡ None → r.first < 2 ^ 64 → r.last < 2 ^ 64 →
     piece_of ((60 ∷ bare_tag (range_blocks r)) ++ rest)
@@ -79,8 +79,7 @@ digest_found r digest rest some h f l =
     let digits = encode_lower digest in
     range_found (head_text digits (range_tail r rest)) r (record { digest = Some digest; len = 81 }) rest
     (digest_head_found digest (range_tail r rest) h) (behind_head digits (range_tail r rest) (digest_long digest h)) f l
-    ∙ ap (λ (d : Option (List ℕ)). Some (sized (item.Range (record { first = r.first; last = r.last; digest = d })) (81 + (length (range_blocks r) + 10))))
-    (sym some)
+    ∙ ap (λ (d : Option (List ℕ)). Some (sized_range r d (81 + (length (range_blocks r) + 10)))) (sym some)
 
 digest_tag_long : (digits blocks : List ℕ) → length digits ≡ 64 →
     81 + (length blocks + 10) ≡ length (60 ∷ digest_tag digits blocks)
@@ -133,8 +132,8 @@ pub record MayFollow (done : List Range) (r : Range) : Type 0 where
   pub room : length done < max_ranges
   pub digest : IfSome r.digest IsDigest
 
-pub range_read : (at : ℕ) (m : BlockMap) (place : ℕ) (digest : List ℕ) (done : List Range) (r : Range) (rest : List ℕ) (end : Stood) →
-    MayFollow done r →
+pub range_read : (at : ℕ) (m : BlockMap) (place : ℕ) (digest : List ℕ) (done : List Range) (r : Range)
+    (rest : List ℕ) (end : Stood) → MayFollow done r →
     ((at : ℕ) → Reads at (in_map m place digest (done ++ r ∷ [])) (10 ∷ rest) end) →
     Reads at (in_map m place digest done) (10 ∷ (ended (range_line r) ++ rest)) end
 range_read at m place digest done r rest end h more =
@@ -172,5 +171,7 @@ ranges_read m place digest back end last small done (r ∷ rs) at rise digests f
       digest = digests.0;
     } in
     range_read at m place digest done r (text_of (map range_line rs ++ back)) end next
-    (λ at'. ranges_read m place digest back end last small (done ++ r ∷ []) rs at' on digests.1 (omega (arith, few, long))
-    (λ at''. subst (λ (all : List Range). Reads at'' (in_map m place digest all) (10 ∷ text_of back) end) (sym together) (more at'')))
+    (λ at'. ranges_read m place digest back end last small (done ++ r ∷ []) rs at' on digests.1
+    (omega (arith, few, long))
+    (λ at''. subst (λ (all : List Range). Reads at'' (in_map m place digest all) (10 ∷ text_of back) end) (sym together)
+    (more at'')))

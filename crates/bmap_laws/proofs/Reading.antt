@@ -62,7 +62,8 @@ line_read at s next end i blank tag rest white is stand more =
     let behind : Reads (at + length (10 ∷ blank) + length (60 ∷ tag)) next (10 ∷ rest) end =
     subst (λ (n : ℕ). Reads n next (10 ∷ rest) end) (sym (line_long at blank (60 ∷ tag))) more in
     let here : Reads (at + length (10 ∷ blank)) (spaced_out s) ((60 ∷ tag) ++ 10 ∷ rest) end =
-    one_more (at + length (10 ∷ blank)) (spaced_out s) next end i (60 ∷ tag) (10 ∷ rest) (omega arith) is stand behind in
+    one_more (at + length (10 ∷ blank)) (spaced_out s) next end i (60 ∷ tag) (10 ∷ rest) (omega arith) is stand
+    behind in
     subst (λ (xs : List ℕ). Reads at s xs end) (sym (line_apart blank (60 ∷ tag) rest))
     (one_more at s (spaced_out s) end item.Blank (10 ∷ blank) ((60 ∷ tag) ++ 10 ∷ rest) (omega arith)
     (blank_piece blank (tag ++ 10 ∷ rest) white) refl here)

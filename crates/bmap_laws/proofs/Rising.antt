@@ -23,10 +23,11 @@ rise_of from end (r ∷ rs) start filled ascend below = (
   start 0 r (omega arith),
   filled 0 r (omega arith),
   below 0 r (omega arith),
-  rise_of (r.last + 1) end rs (λ k d within. (let up = ascend 0 (suc k) d (omega arith) (omega (arith, within)) in omega (arith, up)))
-  (λ k d within. filled (suc k) d (omega (arith, within)))
-  (λ i j d up within. ascend (suc i) (suc j) d (omega (arith, up)) (omega (arith, within)))
-  (λ k d within. below (suc k) d (omega (arith, within))),
+  rise_of (r.last + 1) end rs
+      (λ k d within. (let up = ascend 0 (suc k) d (omega arith) (omega (arith, within)) in omega (arith, up)))
+      (λ k d within. filled (suc k) d (omega (arith, within)))
+      (λ i j d up within. ascend (suc i) (suc j) d (omega (arith, up)) (omega (arith, within)))
+      (λ k d within. below (suc k) d (omega (arith, within))),
 )
 
 -- ---- the number of blocks

@@ -62,7 +62,8 @@ pub count_stands : (at : ℕ) (m : BlockMap) →
 count_stands at m = refl
 
 pub mapped_stands : (at : ℕ) (m : BlockMap) →
-    stands at (spaced_out (with_count m)) (item.Number field.MappedBlocksCount (blocks_in m.ranges)) ≡ Ok (with_mapped m)
+    stands at (spaced_out (with_count m)) (item.Number field.MappedBlocksCount (blocks_in m.ranges))
+    ≡ Ok (with_mapped m)
 mapped_stands at m = refl
 
 pub type_stands : (at : ℕ) (m : BlockMap) → stands at (spaced_out (with_mapped m)) item.ChecksumType ≡ Ok (with_type m)

@@ -6,14 +6,15 @@ use Rattle.sha2.specs.Sha256.{sha256}
 use Rattle.base_fields.specs.Results.{◌>>=◌}
 use Rattle.block_map.specs.Maps.{IsMap, block_count}
 use Rattle.block_map.specs.declared.maps.BlockMap.{BlockMap}
-use Rattle.bmap_grammar.specs.Document.{map_of}
+use Rattle.block_map.specs.declared.maps.Range.{Range}
+use Rattle.bmap_grammar.specs.Document.{Answers, BmapText, map_of}
 use Rattle.bmap_grammar.specs.Stood.{nothing}
 use Rattle.bmap_grammar.specs.declared.faults.MapFault.{MapFault}
 use Rattle.bmap_grammar.specs.declared.stood.Stood.{Stood}
 use Rattle.bmap_reader.proofs.Said.{bmap_said}
 use Rattle.bmap_writer.specs.Parts.{front_of}
 use Rattle.bmap_writer.specs.Written.{back_lines, ended, front_lines, mapped_line, opening, range_line, text_of, text_with, written_text}
-use Rattle.bmap_laws.specs.Digests.{HasDigests, IsDigest}
+use Rattle.bmap_laws.specs.Digests.{AreDigests, HasDigests, IsDigest}
 use Rattle.bmap_laws.specs.Laws.{WrittenTextsAreDocuments, WrittenTextsSayTheirMap}
 use Rattle.bmap_laws.proofs.Digests.{digest_long, sum_is_digest}
 use Rattle.bmap_laws.proofs.Ending.{map_found, sum_there}
@@ -39,14 +40,14 @@ ranges_part at m place digest h digests =
     (omega (arith, few)) [] m.ranges at' (map_rises m h) (digests_of m digests) (omega (arith, count))
     (λ at''. back_read at'' m place digest))
 
--- how many bytes stand in front of the LF behind ChecksumType
-abbrev end_of_type : BlockMap → ℕ
-end_of_type m =
+-- how many bytes stand in front of the LF behind the numbers, and in front of the digits of the sum
+abbrev end_of_numbers : BlockMap → ℕ
+end_of_numbers m =
     43 + length (ended (size_line m)) + length (ended (block_line m)) + length (ended (count_line m))
-    + length (ended (mapped_line m)) + length (ended type_line)
+    + length (ended (mapped_line m))
 
 abbrev place_of : BlockMap → ℕ
-place_of m = end_of_type m + 5 + 19
+place_of m = end_of_numbers m + length (ended type_line) + 5 + 19
 
 -- the kind of the sum, the sum and the ranges
 sums_part : (m : BlockMap) (at : ℕ) (digest : List ℕ) → IsMap m → HasDigests m → IsDigest digest →
@@ -62,8 +63,7 @@ sums_part m at digest h digests sum =
 
 -- the numbers and all behind them
 numbers_part : (m : BlockMap) (rest : List (List ℕ)) (end : Stood) → IsMap m →
-    Reads (43 + length (ended (size_line m)) + length (ended (block_line m)) + length (ended (count_line m)) + length (ended (mapped_line m)))
-    (with_mapped m) (10 ∷ text_of rest) end →
+    Reads (end_of_numbers m) (with_mapped m) (10 ∷ text_of rest) end →
     Reads 0 nothing
     (text_of (declaration_line ∷ start_line ∷ size_line m ∷ block_line m ∷ count_line m ∷ mapped_line m ∷ rest)) end
 numbers_part m rest end h more =
@@ -83,7 +83,7 @@ whole_read : (m : BlockMap) (digest : List ℕ) → IsMap m → HasDigests m →
     Reads 0 nothing (text_with m (encode_lower digest)) (all_stood m (place_of m) digest)
 whole_read m digest h digests sum =
     numbers_part m (type_line ∷ sum_line digest ∷ back_lines m.ranges) (all_stood m (place_of m) digest) h
-    (sums_part m _ digest h digests sum)
+    (sums_part m (end_of_numbers m) digest h digests sum)
 
 -- ---- the place of the sum
 
@@ -138,3 +138,11 @@ written_texts_are_documents m h digests =
 
 pub written_texts_say_their_map : WrittenTextsSayTheirMap
 written_texts_say_their_map m h digests = bmap_said (written_text m) m (written_texts_are_documents m h digests)
+
+-- the same of a text and ranges that are said to be the map's
+pub reads_back : (m : BlockMap) (ranges : List Range) (text bytes : List ℕ) (r : Result BlockMap MapFault) → IsMap m →
+    ranges ≡ m.ranges → AreDigests ranges → bytes ≡ text → text ≡ written_text m →
+    ((n : BlockMap) → BmapText bytes n → Answers (Ok n) r) → Answers (Ok m) r
+reads_back m ranges text bytes r h same digests held is only =
+    let document = written_texts_are_documents m h (subst AreDigests same digests) in
+    only m (subst (λ xs. BmapText xs m) (sym (held ∙ is)) document)

@@ -59,9 +59,10 @@ valued_spaced closing tail value n some h tag =
     let text : List ℕ = spaced value ++ 60 ∷ tail in
     let is : 32 ∷ (value ++ 32 ∷ 60 ∷ tail) ≡ text =
     ap (λ (xs : List ℕ). 32 ∷ xs) (sym (append_assoc value (32 ∷ []) (60 ∷ tail))) in
-    let inside : Pass (λ b. not (b == 60)) (spaced value) =
-    (refl, pass_both (λ b. not (b == 60)) value (32 ∷ []) (pass_so is_plain (λ b. not (b == 60)) value plain_inside h) (refl, tt)) in
-    let long : inside_len text ≡ length (spaced value) = run_ends (λ b. not (b == 60)) (spaced value) 60 tail inside refl in
+    let within : ℕ → Bool = λ b. not (b == 60) in
+    let inside : Pass within (spaced value) =
+    (refl, pass_both within value (32 ∷ []) (pass_so is_plain within value plain_inside h) (refl, tt)) in
+    let long : inside_len text ≡ length (spaced value) = run_ends within (spaced value) 60 tail inside refl in
     let first : take (inside_len text) text ≡ spaced value =
     ap (λ (k : ℕ). take k text) long ∙ take-append_seam (spaced value) (60 ∷ tail) in
     let rest : drop (inside_len text) text ≡ 60 ∷ tail =
@@ -143,8 +144,10 @@ two_blocks first last f l =
     let text : List ℕ = decimal first ++ 45 ∷ decimal last in
     let place : position is_dash text ≡ Some (length (decimal first)) =
     found is_dash (decimal first) 45 (decimal last) (no_dash first f) refl in
-    let front : take (length (decimal first)) text ≡ decimal first = take-append_seam (decimal first) (45 ∷ decimal last) in
-    let back : drop (length (decimal first) + 1) text ≡ decimal last = drop-append-add (decimal first) (45 ∷ decimal last) 1 in
+    let front : take (length (decimal first)) text ≡ decimal first =
+    take-append_seam (decimal first) (45 ∷ decimal last) in
+    let back : drop (length (decimal first) + 1) text ≡ decimal last =
+    drop-append-add (decimal first) (45 ∷ decimal last) 1 in
     ap (blocks_by text) place
     ∙ rw (front, back, decimal_number first f, decimal_number last l) refl
 
@@ -165,7 +168,8 @@ plain_by_test r false e f l =
     let some = decimal_some r.last l in
     rw e (
       pass_both is_plain (decimal r.first ++ 45 ∷ []) (decimal r.last)
-      (pass_both is_plain (decimal r.first) (45 ∷ []) (decimal_plain r.first f) (refl, tt)) (decimal_plain r.last l),
+          (pass_both is_plain (decimal r.first) (45 ∷ []) (decimal_plain r.first f) (refl, tt))
+          (decimal_plain r.last l),
       omega (arith, both, some),
     )
 

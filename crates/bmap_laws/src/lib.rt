@@ -1,5 +1,5 @@
-//! Laws of block maps that are written and read: the text that is written for a map is a document of that map, and so
-//! it is read back as it.
+//! Laws of block maps that are written and read: the text that is written for a map is a document of that map, so it
+//! is read as that map again.
 #![tactic(auto)]
 
 mod laws;
