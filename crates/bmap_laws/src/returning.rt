@@ -28,6 +28,7 @@ fn have_digests(ranges: &[Range])
     }
 }
 
+/// The digest of a range is, if it has one.
 fn has_digest(range: &Range)
     ensures { IfSome range.now.digest IsDigest }
 {
@@ -37,6 +38,7 @@ fn has_digest(range: &Range)
     }
 }
 
+/// Each array of 32 bytes is a digest.
 fn is_digest(digest: [u8; 32])
     ensures { IsDigest digest }
 {}
