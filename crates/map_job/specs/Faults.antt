@@ -1,5 +1,5 @@
 -- What shows that no block map is written.
-use Rattle.std.specs.Prelude.{◌≡◌, ◌≢◌, ℕ, ◌<◌, Bool, true, false}
+use Rattle.std.specs.Prelude.{◌≡◌, ◌≢◌, ℕ, ◌<◌, Bool, true, false, Result, Ok, Err, IsOk}
 use Rattle.build_job.specs.Faults.{IsLengthShown}
 use Rattle.image_plan.specs.Faults.{is_counted as is_plan_counted, IsShown as IsPlanShown}
 use Rattle.outside.specs.Counts.{Counts, Rose}
@@ -22,6 +22,28 @@ IsOfImages n (ImageStale has needs) = Unit {0}
 IsOfImages n (Digest image fault) = image < n
 IsOfImages n FileFault = Unit {0}
 IsOfImages n NoMemory = Unit {0}
+
+-- a fault that comes once the image of that number is chosen
+abbrev pub IsOf : ℕ → MappingFault → Type 0
+IsOf number NoImage = ⊥
+IsOf number NameClash = ⊥
+IsOf number (Plan image fault) = image ≡ number
+IsOf number (Measure image fault) = image ≡ number
+IsOf number (ImageStale has needs) = Unit {0}
+IsOf number (Digest image fault) = image ≡ number
+IsOf number FileFault = Unit {0}
+IsOf number NoMemory = Unit {0}
+
+-- so it is, or it is the refusal of the choice
+abbrev pub IsBehind : Result ℕ MappingFault → MappingFault → Type 0
+IsBehind chosen NoImage = chosen ≡ Err NoImage
+IsBehind chosen NameClash = chosen ≡ Err NameClash
+IsBehind chosen (Plan image fault) = chosen ≡ Ok image
+IsBehind chosen (Measure image fault) = chosen ≡ Ok image
+IsBehind chosen (ImageStale has needs) = IsOk chosen
+IsBehind chosen (Digest image fault) = chosen ≡ Ok image
+IsBehind chosen FileFault = IsOk chosen
+IsBehind chosen NoMemory = IsOk chosen
 
 -- ---- a call failed or memory was refused
 

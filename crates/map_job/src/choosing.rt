@@ -1,9 +1,10 @@
 //! Which image is mapped, and whether the map's file has a name of its own.
-ghost use Rattle.std.specs.Prelude.{◌≡◌, ◌<◌, ◌≤◌, IfOk, length};
+ghost use Rattle.std.specs.Prelude.{◌≡◌, ◌<◌, ◌≤◌, IfErr, IfOk, length};
 ghost use Rattle.std.specs.List.{list_any};
 ghost use Rattle.std.specs.Str.{bytes_eq};
 ghost use Rattle.image_graph.specs.Clashes.{ready_name};
 ghost use Rattle.image_names.specs.Names.{holds};
+ghost use Rattle.map_job.specs.Faults.{IsBehind};
 ghost use Rattle.map_job.specs.Said.{chosen_said, is_named};
 
 use crate::MappingFault;
@@ -15,6 +16,7 @@ use image_graph::{Graph, ImageSpec, Source};
 pub fn choose(texts: &[Name], graph: &Graph, image: &str, out: &str) -> Result<u32, MappingFault>
     requires few { length graph.now.specs ≤ 64 }
     ensures said { result ≡ chosen_said texts.now graph.now.specs image.now out.now }
+    ensures behind { IfErr result (IsBehind (chosen_said texts.now graph.now.specs image.now out.now)) }
     ensures within { IfOk result (λ number. number < length graph.now.specs) }
 {
     let Some(number) = graph.find(image) else {

@@ -7,7 +7,7 @@ ghost use Rattle.outside.specs.Counts.{NoneFell};
 ghost use Rattle.outside.specs.Files.{IsThere, bytes_of};
 ghost use Rattle.region_pool.specs.Buffers.{free_of};
 ghost use Rattle.region_pool.specs.Uses.{IsGivenBack};
-ghost use Rattle.map_job.specs.Faults.{IsOfImages, IsShown, is_counted};
+ghost use Rattle.map_job.specs.Faults.{IsOf, IsShown, is_counted};
 
 use crate::MappingFault;
 use crate::measuring::Measured;
@@ -38,7 +38,7 @@ pub fn map_measured<F: Files>(
     ensures counted { F.told → IfErr result (λ fault. IsTrue (is_counted fault)) }
     ensures map { IfOk result IsMap }
     ensures cause { IfErr result (IsShown (F.counts files.old) (F.counts files.new)) }
-    ensures image { (n : ℕ) → number < n → IfErr result (IsOfImages n) }
+    ensures image { IfErr result (IsOf number) }
     ensures none_fell { NoneFell (F.counts files.old) (F.counts files.new) }
     ensures same_files { F.file files.new ≡ F.file files.old }
     ensures given_back { IsGivenBack pool.old pool.new }
@@ -65,7 +65,7 @@ fn digest_ranges<F: Files>(
     ensures counted { F.told → IfErr result (λ fault. IsTrue (is_counted fault)) }
     ensures map { IsMap map.new }
     ensures cause { IfErr result (IsShown (F.counts files.old) (F.counts files.new)) }
-    ensures image { (n : ℕ) → number < n → IfErr result (IsOfImages n) }
+    ensures image { IfErr result (IsOf number) }
     ensures none_fell { NoneFell (F.counts files.old) (F.counts files.new) }
     ensures same_files { F.file files.new ≡ F.file files.old }
     ensures given_back { IsGivenBack pool.old pool.new }
@@ -96,7 +96,7 @@ fn digest_range<F: Files>(
     ensures size { map.new.size ≡ map.old.size }
     ensures many { length map.new.ranges ≡ length map.old.ranges }
     ensures cause { IfErr result (IsShown (F.counts files.old) (F.counts files.new)) }
-    ensures image { (n : ℕ) → number < n → IfErr result (IsOfImages n) }
+    ensures image { IfErr result (IsOf number) }
     ensures none_fell { NoneFell (F.counts files.old) (F.counts files.new) }
     ensures same_files { F.file files.new ≡ F.file files.old }
     ensures given_back { IsGivenBack pool.old pool.new }

@@ -1,5 +1,5 @@
 //! The whole of it.
-ghost use Rattle.std.specs.Prelude.{ℕ, ◌<◌, All, IfErr, IfOk, IsOkAnd, length};
+ghost use Rattle.std.specs.Prelude.{◌<◌, All, IfErr, IfOk, IsOk, IsOkAnd, OnOk, length};
 ghost use Rattle.base_fields.specs.Numbers.{IsPowerBetween};
 ghost use Rattle.image_graph.specs.IsGraph.{IsGraph};
 ghost use Rattle.image_specs.specs.IsSpec.{IsSpec};
@@ -7,9 +7,9 @@ ghost use Rattle.job_stages.specs.Stages.{Refuses};
 ghost use Rattle.outside.specs.Counts.{NoneFell};
 ghost use Rattle.outside.specs.Files.{OthersStay};
 ghost use Rattle.region_pool.specs.Buffers.{free_of};
-ghost use Rattle.map_job.specs.Faults.{IsKept, IsOfImages, IsShown, is_counted};
+ghost use Rattle.map_job.specs.Faults.{IsBehind, IsKept, IsOf, IsOfImages, IsShown, is_counted};
 ghost use Rattle.map_job.specs.Mapped.{IsMapped};
-ghost use Rattle.map_job.specs.Said.{image_said, mapping_said};
+ghost use Rattle.map_job.specs.Said.{chosen_said, image_said, mapping_said};
 
 use crate::MappingFault;
 use crate::choosing::choose;
@@ -57,7 +57,10 @@ pub fn map_image<F: Files>(
         (λ wanted. IsMapped wanted block (F.file files.new out.now) mapped)) }
     ensures refused { F.told → IfErr result (Refuses is_counted (mapping_said texts.now graph.now (F.file files.old) image.now out.now)) }
 
-    // Told or not: a fault of the files only where its count rose, and no file changed before the writing.
+    // Told or not: a refusal of the choice exactly where it is refused, a fault of the files only where its count rose, and
+    // no file changed before the writing.
+    ensures chosen { OnOk result (IsOk (chosen_said texts.now graph.now.specs image.now out.now)) }
+    ensures behind { IfErr result (IsBehind (chosen_said texts.now graph.now.specs image.now out.now)) }
     ensures cause { IfErr result (IsShown (F.counts files.old) (F.counts files.new)) }
     ensures image { IfErr result (IsOfImages (length graph.now.specs)) }
     ensures kept { IfErr result (IsKept (F.file files.old) (F.file files.new)) }
@@ -89,7 +92,7 @@ fn map_spec<F: Files>(
         (λ wanted. IsMapped wanted block (F.file files.new out.now) mapped)) }
     ensures refused { F.told → IfErr result (Refuses is_counted (image_said (F.file files.old) number spec.now)) }
     ensures cause { IfErr result (IsShown (F.counts files.old) (F.counts files.new)) }
-    ensures image { (n : ℕ) → number < n → IfErr result (IsOfImages n) }
+    ensures image { IfErr result (IsOf number) }
     ensures kept { IfErr result (IsKept (F.file files.old) (F.file files.new)) }
     ensures none_fell { NoneFell (F.counts files.old) (F.counts files.new) }
     ensures others { OthersStay out.now (F.file files.old) (F.file files.new) }

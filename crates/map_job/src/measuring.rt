@@ -6,7 +6,7 @@ ghost use Rattle.image_plan.specs.Plans.{is_planned};
 ghost use Rattle.image_specs.specs.IsSpec.{IsOneSource, IsSpec};
 ghost use Rattle.job_stages.specs.Stages.{Refuses};
 ghost use Rattle.outside.specs.Counts.{Counts, NoneFell};
-ghost use Rattle.map_job.specs.Faults.{IsOfImages, IsShown, is_counted};
+ghost use Rattle.map_job.specs.Faults.{IsOf, IsShown, is_counted};
 ghost use Rattle.map_job.specs.Mapped.{IsMeasured};
 ghost use Rattle.map_job.specs.Said.{bytes_said, image_said, laid_said, sparse_image_said, whole_said};
 
@@ -45,7 +45,7 @@ pub fn measure<F: Files>(
     ensures small { IfOk result (λ measured. measured.size ≤ 2 ^ 43) }
     ensures few { IfOk result (λ measured. length measured.cover ≤ max_ranges) }
     ensures cause { IfErr result (IsShown (F.counts files.old) (F.counts files.new)) }
-    ensures image { (n : ℕ) → number < n → IfErr result (IsOfImages n) }
+    ensures image { IfErr result (IsOf number) }
     ensures none_fell { NoneFell (F.counts files.old) (F.counts files.new) }
     ensures same_files { F.file files.new ≡ F.file files.old }
 {
@@ -80,7 +80,7 @@ fn measure_laid<F: Files>(
     ensures small { IfOk result (λ measured. measured.size ≤ 2 ^ 43) }
     ensures few { IfOk result (λ measured. length measured.cover ≤ max_ranges) }
     ensures cause { IfErr result (IsShown (F.counts files.old) (F.counts files.new)) }
-    ensures image { (n : ℕ) → number < n → IfErr result (IsOfImages n) }
+    ensures image { IfErr result (IsOf number) }
     ensures none_fell { NoneFell (F.counts files.old) (F.counts files.new) }
     ensures same_files { F.file files.new ≡ F.file files.old }
 {
@@ -117,7 +117,7 @@ fn measure_sparse<F: Files>(
     ensures small { IfOk result (λ measured. measured.size ≤ 2 ^ 43) }
     ensures few { IfOk result (λ measured. length measured.cover ≤ max_ranges) }
     ensures cause { IfErr result (IsShown (F.counts files.old) (F.counts files.new)) }
-    ensures image { (n : ℕ) → number < n → IfErr result (IsOfImages n) }
+    ensures image { IfErr result (IsOf number) }
     ensures none_fell { NoneFell (F.counts files.old) (F.counts files.new) }
     ensures same_files { F.file files.new ≡ F.file files.old }
 {
@@ -146,7 +146,7 @@ fn length_of<F: Files>(files: &mut F, number: u32, spec: &ImageSpec) -> Result<u
     ensures exact { F.told → IfOk result (λ len. IsOkAnd (bytes_said (F.file files.old) number spec.now) (λ bytes. length bytes ≡ len)) }
     ensures refused { F.told → IfErr result (Refuses is_counted (bytes_said (F.file files.old) number spec.now)) }
     ensures cause { IfErr result (IsShown (F.counts files.old) (F.counts files.new)) }
-    ensures image { (n : ℕ) → number < n → IfErr result (IsOfImages n) }
+    ensures image { IfErr result (IsOf number) }
     ensures none_fell { NoneFell (F.counts files.old) (F.counts files.new) }
     ensures same_files { F.file files.new ≡ F.file files.old }
 {
@@ -167,7 +167,7 @@ fn all_of(alloc: Global, number: u32, spec: &ImageSpec, size: u64) -> Result<Mea
     ensures small { IfOk result (λ measured. measured.size ≤ 2 ^ 43) }
     ensures few { IfOk result (λ measured. length measured.cover ≤ max_ranges) }
     ensures shown { IfErr result (λ fault. (before now : Counts) → IsShown before now fault) }
-    ensures image { (n : ℕ) → number < n → IfErr result (IsOfImages n) }
+    ensures image { IfErr result (IsOf number) }
 {
     within(alloc, number, spec, size)?;
     let measured = whole(alloc, size)?;
@@ -178,7 +178,7 @@ fn within(alloc: Global, number: u32, spec: &ImageSpec, size: u64) -> Result<(),
     ensures small { OnOk result (size ≤ 2 ^ 43) }
     ensures refused { (bytes : List ℕ) → length bytes ≡ size → IfErr result (Refuses is_counted (whole_said number spec.now bytes)) }
     ensures shown { IfErr result (λ fault. (before now : Counts) → IsShown before now fault) }
-    ensures image { (n : ℕ) → number < n → IfErr result (IsOfImages n) }
+    ensures image { IfErr result (IsOf number) }
 {
     if size > LONGEST {
         return Err(MappingFault::Plan {

@@ -4,7 +4,7 @@ use Rattle.map_job.specs.Mapped.{IsMapped}
 use Rattle.map_job.specs.Said.{Image}
 use Rattle.map_job.specs.declared.faults.MappingFault.{MappingFault}
 use Rattle.map_job.proofs.Chosen.{mapping_is}
-use Rattle.map_job.proofs.Refusals.{refuses_along}
+use Rattle.map_job.proofs.Refusals.{comes_behind, of_images, refuses_along}
 use Rattle.map_job.proofs.mapping.map_image.Goals as goal
 
 pub returns-in_err-mapped-clause-refused : goal.returns-in_err-mapped-clause-refused
@@ -19,7 +19,14 @@ returns-in_err-mapped-clause-refused g c = λ told.
 pub returns-in_err-mapped-clause-image : goal.returns-in_err-mapped-clause-image
 returns-in_err-mapped-clause-image g c =
     let same : c.from_residual-in_err-mapped.result ≡ Err c.in_err-mapped.field-0.0 = search rules in
-    rw same (c.in_err-mapped.ensures.image _ c.in_ok-number.ensures.within)
+    rw same (of_images _ c.in_ok-number.number c.in_err-mapped.field-0.0 c.in_ok-number.ensures.within
+    c.in_err-mapped.ensures.image)
+
+pub returns-in_err-mapped-clause-behind : goal.returns-in_err-mapped-clause-behind
+returns-in_err-mapped-clause-behind g c =
+    let same : c.from_residual-in_err-mapped.result ≡ Err c.in_err-mapped.field-0.0 = search rules in
+    rw same (comes_behind _ c.in_ok-number.number c.in_err-mapped.field-0.0 c.in_ok-number.ensures.said
+    c.in_err-mapped.ensures.image)
 
 pub returns-clause-made : goal.returns-clause-made
 returns-clause-made g c = λ told.

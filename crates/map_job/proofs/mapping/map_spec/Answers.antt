@@ -6,9 +6,9 @@ use Rattle.map_job.proofs.Whole.{mapped_by}
 use Rattle.map_job.proofs.mapping.map_spec.Goals as goal
 
 pub returns-in_err-map-clause-image : goal.returns-in_err-map-clause-image
-returns-in_err-map-clause-image g c = λ n below.
+returns-in_err-map-clause-image g c =
     let same : c.from_residual-in_err-map.result ≡ Err c.in_err-map.field-0.0 = search rules in
-    rw same (c.in_err-map.ensures.image n below)
+    rw same (c.in_err-map.ensures.image)
 
 pub returns-clause-made : goal.returns-clause-made
 returns-clause-made g c = λ told.

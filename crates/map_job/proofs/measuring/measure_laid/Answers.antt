@@ -3,9 +3,9 @@ use Rattle.map_job.proofs.Measures.{laid_measured}
 use Rattle.map_job.proofs.measuring.measure_laid.Goals as goal
 
 pub returns-in_err-size-clause-image : goal.returns-in_err-size-clause-image
-returns-in_err-size-clause-image g c = λ n below.
+returns-in_err-size-clause-image g c =
     let same : c.from_residual.result ≡ Err c.in_err-size.field-0.0 = search rules in
-    rw same (c.in_err-size.ensures.image n below)
+    rw same (c.in_err-size.ensures.image)
 
 pub returns-clause-measured : goal.returns-clause-measured
 returns-clause-measured g c = λ told.
