@@ -35,7 +35,10 @@ fn front_of(alloc: Global, count: u64) -> Result<String> {
     write!(text, "    <ImageSize> {size} </ImageSize>\n")?;
     text.push_str("    <BlockSize> 512 </BlockSize>\n")?;
     write!(text, "    <BlocksCount> {blocks} </BlocksCount>\n")?;
-    write!(text, "    <MappedBlocksCount> {count} </MappedBlocksCount>\n")?;
+    write!(
+        text,
+        "    <MappedBlocksCount> {count} </MappedBlocksCount>\n"
+    )?;
     text.push_str("    <ChecksumType> sha256 </ChecksumType>\n    <BmapFileChecksum> ")?;
     Ok(text)
 }

@@ -66,7 +66,9 @@ fn show_map(alloc: Global, map: &BlockMap) -> Result<String>
     let blocks = map.block_count();
     let mapped = map.mapped_count();
     let count = map.ranges.len();
-    let mut line = format!(in alloc; "map size={size} block={block} blocks={blocks} mapped={mapped} ranges={count}")?;
+    let mut line = format!(in alloc;
+        "map size={size} block={block} blocks={blocks} mapped={mapped} ranges={count}"
+    )?;
     for range in map.ranges.as_slice().iter().take(SHOWN) {
         put_range(alloc, &mut line, range)?;
     }
@@ -88,9 +90,15 @@ fn put_range(alloc: Global, line: &mut String, range: &Range) -> Result<()> {
 fn show_fault(alloc: Global, fault: MapFault) -> Result<String> {
     match fault {
         MapFault::BadMap { place } => Ok(format!(in alloc; "no map: BadMap place={place}")?),
-        MapFault::OtherVersion { place } => Ok(format!(in alloc; "no map: OtherVersion place={place}")?),
-        MapFault::OtherDigest { place } => Ok(format!(in alloc; "no map: OtherDigest place={place}")?),
-        MapFault::BadCounts { want, got } => Ok(format!(in alloc; "no map: BadCounts want={want} got={got}")?),
+        MapFault::OtherVersion { place } => Ok(format!(in alloc;
+            "no map: OtherVersion place={place}"
+        )?),
+        MapFault::OtherDigest { place } => Ok(format!(in alloc;
+            "no map: OtherDigest place={place}"
+        )?),
+        MapFault::BadCounts { want, got } => Ok(format!(in alloc;
+            "no map: BadCounts want={want} got={got}"
+        )?),
         MapFault::SumDiffers { want, got } => show_sums(alloc, &want, &got),
         MapFault::NoMemory => bail!("out of memory"),
     }
