@@ -1,7 +1,8 @@
 -- lemmas
+mod CountedLemmas
 mod LineLemmas
-mod ListLemmas
 mod MapLemmas
 mod RunLemmas
 mod SaidLemmas
+mod UnreadLemmas
 mod VerifyLemmas

@@ -1,18 +1,22 @@
 -- What the answer of `map` says.
-use Rattle.std.proofs.Common.{◌≡◌, ◌∙◌, ℕ, true, List, [], ◌∷◌, Result, Ok, Err, refl, ap, subst, sym, inl, inr}
-use Rattle.std.specs.Prelude.{◌⊎◌, IsOkAnd}
+use Rattle.std.proofs.Common.{◌≡◌, ◌∙◌, ℕ, true, List, [], ◌∷◌, Option, Result, Ok, Err, refl, ap, subst, sym, inl, inr}
+use Rattle.std.specs.Prelude.{◌⊎◌, IsOkAnd, OnErr, OnOk}
 use Rattle.base_fields.specs.Results.{◌>>=◌, refused_by}
 use Rattle.outside.specs.Counts.{Counts, Rose}
 use Rattle.outside.specs.Files.{Tree}
 use Rattle.outside.specs.declared.files.FileErr.TheVariants as measure
+use Rattle.outside.specs.Printer.{added}
+use Rattle.outside.specs.declared.printer.PrintErr.{PrintErr}
 use Rattle.answer_lines.specs.Answer.{error_text}
 use Rattle.answer_lines.specs.Kind.{Kind, Finished, LineFailed, Counted, Refused, kind_of}
+use Rattle.answer_lines.specs.Lines.{mapped_text}
 use Rattle.answer_lines.specs.declared.answer.Answer.{Answer}
 use Rattle.answer_lines.specs.declared.answer.Answer.TheVariants.{NoMemory}
 use Rattle.answer_lines.specs.declared.answer.Report.{Report}
 use Rattle.answer_lines.specs.declared.answer.Report.TheVariants as report
 use Rattle.image_graph.specs.declared.images.Graph.{Graph}
 use Rattle.image_plan.specs.declared.faults.PlanFault.TheVariants as plan
+use Rattle.job_stages.specs.Printing.{Prints}
 use Rattle.job_stages.specs.Stages.{Refuses}
 use Rattle.map_job.specs.Faults.{IsShown as IsMappingShown, is_counted as is_mapping_counted}
 use Rattle.map_job.specs.Mapped.{IsMapped}
@@ -24,13 +28,12 @@ use Rattle.placement_rules.specs.declared.faults.PlaceFault.{PlaceFault}
 use Rattle.placement_rules.specs.declared.faults.PlaceFault.TheVariants as place
 use Rattle.range_digest.specs.declared.digests.DigestFault.TheVariants as digest
 use Rattle.image_plan.specs.Faults.{is_memory}
-use Rattle.image_jobs.proofs.RunLemmas.{place_shown}
-use Rattle.image_jobs.proofs.SaidLemmas.{ok_and, refuses_as, refuses_then}
+use Rattle.image_jobs.proofs.SaidLemmas.{refuses_as}
 use Rattle.image_jobs.specs.Answering.{IsCopied, is_counted, place_answer}
 use Rattle.image_jobs.specs.BuildArm.{IsShown}
 use Rattle.image_jobs.specs.MapArm.{HasMapped, IsMapShown, MapAnswers, MapCause, MapCompletes, Maps, image_wanted, is_mapped}
 use Rattle.image_jobs.specs.MapArm.{map_cause_by, map_lines, map_lines_by, mapped_by, mapping_answer}
-use Rattle.image_jobs.specs.Printed.{HasError, IsRefusal, Reports, reported_by}
+use Rattle.image_jobs.specs.Printed.{HasError, IsRefusal, Reports, reported_by, reported_of}
 use Rattle.image_jobs.specs.Said.{IsExpected, Says, expected_by, says_by}
 use Rattle.image_jobs.specs.declared.request.MapRequest.{MapRequest}
 
@@ -74,84 +77,7 @@ mapping_refused file after image out texts graph block f got h copied =
     refuses_as (mapping_said texts graph file image out) is_mapping_counted (mapping_answer graph image out) f got
     (counted_stays graph image out f) h copied
 
-pub mapping_made : (file after : Tree) (image out : List ℕ) (texts : List (List ℕ)) (graph : Graph) (block : ℕ) (mapped : Mapped)
-    → IsOkAnd (mapping_said texts graph file image out) (λ wanted. IsMapped wanted block (after out) mapped)
-    → Maps (image_wanted file image out texts graph) block out after (Ok mapped)
-mapping_made file after image out texts graph block mapped h =
-    ok_and (mapping_answer graph image out) (mapping_said texts graph file image out) (λ wanted. IsMapped wanted block (after out) mapped) h
-
-shown : (before now : Counts) (graph : Graph) (image out : List ℕ) (f : MappingFault) → IsMappingShown before now f
-    → IsMapShown before now (mapping_answer graph image out f)
-shown before now graph image out fault.NoImage h = inr tt
-shown before now graph image out fault.NameClash h = inl tt
-shown before now graph image out (fault.Plan number (plan.Missing source)) h = inl h
-shown before now graph image out (fault.Plan number plan.FileFault) h = inl h
-shown before now graph image out (fault.Plan number (plan.Place f)) h = inl (place_shown before now f)
-shown before now graph image out (fault.Measure number measure.Missing) h = inl h
-shown before now graph image out (fault.Measure number measure.Failed) h = inl h
-shown before now graph image out (fault.ImageStale has needs) h = inr h
-shown before now graph image out (fault.Digest number digest.Missing) h = inl h
-shown before now graph image out (fault.Digest number (digest.SourceShort at)) h = inl h
-shown before now graph image out (fault.Digest number digest.FileFault) h = inl h
-shown before now graph image out fault.FileFault h = inl h
-shown before now graph image out fault.NoMemory h = inl tt
-
-pub mapping_shown : (before now : Counts) (graph : Graph) (image out : List ℕ) (f : MappingFault) (got : Answer)
-    → IsMappingShown before now f → IsCopied (mapping_answer graph image out f) got → IsMapShown before now got
-mapping_shown before now graph image out f got h (inl same) =
-    subst (IsMapShown before now) (sym same) (shown before now graph image out f h)
-mapping_shown before now graph image out f got h (inr memory) = subst (IsMapShown before now) (sym memory) (inl tt)
-
--- ---- one stage behind another
-
-pub maps_then : {A : Type 0} (wanted : Result A Answer) (next : A → Result Image Answer) (x : A) (block : ℕ) (out : List ℕ)
-    (after : Tree) (result : Result Mapped Answer) → wanted ≡ Ok x → Maps (next x) block out after result
-    → Maps (wanted >>= next) block out after result
-maps_then {A} wanted next x block out after result is h =
-    subst (λ (w : Result A Answer). Maps (w >>= next) block out after result) (sym is) h
-
 -- ---- after the work
-
-done_says : (wanted : Result Image Answer) (P : Image → Type 0) (ranges blocks before now : ℕ) (answer : Answer) (k : Kind)
-    → IsOkAnd wanted P → reported_by (report.Mapped ranges blocks) before now k → says_by wanted is_mapped answer k
-done_says (Err refusal) P ranges blocks before now answer k h is = absurd h
-done_says (Ok image) P ranges blocks before now answer (Finished said) h is = subst (is_mapped image) (sym is.0) tt
-done_says (Ok image) P ranges blocks before now answer LineFailed h is = tt
-done_says (Ok image) P ranges blocks before now answer Counted h is = absurd is
-done_says (Ok image) P ranges blocks before now answer Refused h is = absurd is
-
-pub map_done : (wanted : Result Image Answer) (block : ℕ) (out : List ℕ) (after : Tree) (mapped : Mapped) (before now : ℕ)
-    (answer : Answer) → Maps wanted block out after (Ok mapped) → Reports (report.Mapped mapped.ranges mapped.blocks) before now answer
-    → MapAnswers wanted answer
-map_done wanted block out after mapped before now answer h is =
-    done_says wanted _ mapped.ranges mapped.blocks before now answer (kind_of answer) h is
-
-done_expected : (wanted : Result Image Answer) (P : Image → Type 0) (said : Report) (before now : ℕ) (answer : Answer) (k : Kind)
-    → IsOkAnd wanted P → reported_by said before now k → ¬ (Rose before now) → expected_by wanted answer k
-done_expected (Err refusal) P said before now answer k h is steady = absurd h
-done_expected (Ok image) P said before now answer (Finished got) h is steady = tt
-done_expected (Ok image) P said before now answer LineFailed h is steady = steady is
-done_expected (Ok image) P said before now answer Counted h is steady = absurd is
-done_expected (Ok image) P said before now answer Refused h is steady = absurd is
-
-pub map_done_completes : (wanted : Result Image Answer) (block : ℕ) (out : List ℕ) (after : Tree) (mapped : Mapped)
-    (before now : Counts) (lines_before lines_now : ℕ) (answer : Answer) → Maps wanted block out after (Ok mapped)
-    → Reports (report.Mapped mapped.ranges mapped.blocks) lines_before lines_now answer
-    → MapCompletes wanted before now lines_before lines_now answer
-map_done_completes wanted block out after mapped before now lines_before lines_now answer h is steady printed =
-    done_expected wanted _ (report.Mapped mapped.ranges mapped.blocks) lines_before lines_now answer (kind_of answer) h is printed
-
-done_caused : (before now : Counts) (said : Report) (lines_before lines_now : ℕ) (answer : Answer) (k : Kind)
-    → reported_by said lines_before lines_now k → map_cause_by before now lines_before lines_now answer k
-done_caused before now said lines_before lines_now answer (Finished got) is = is.1
-done_caused before now said lines_before lines_now answer LineFailed is = is
-done_caused before now said lines_before lines_now answer Counted is = absurd is
-done_caused before now said lines_before lines_now answer Refused is = absurd is
-
-pub map_done_caused : (before now : Counts) (said : Report) (lines_before lines_now : ℕ) (answer : Answer)
-    → Reports said lines_before lines_now answer → MapCause before now lines_before lines_now answer
-map_done_caused before now said lines_before lines_now answer is =
-    done_caused before now said lines_before lines_now answer (kind_of answer) is
 
 done_made : (wanted : Result Image Answer) (mapping : MapRequest) (after : Tree) (mapped : Mapped) (before now : ℕ) (k : Kind)
     → IsOkAnd wanted (λ image. IsMapped image mapping.block (after mapping.out) mapped)
@@ -201,3 +127,20 @@ refused_line answer Refused error = refl
 
 pub map_error_line : (answer : Answer) → IsRefusal answer → map_lines answer ≡ error_text answer ∷ []
 map_error_line answer error = refused_line answer (kind_of answer) error
+
+-- ---- the line of a map that is written
+
+-- where its one call printed it, it is the answer's line; where it didn't, the answer has none
+pub map_printed : (ranges blocks : ℕ) (before now : Option (List (List ℕ))) (faults_before faults_now : ℕ) (r : Result Unit PrintErr)
+    (answer : Answer) → answer ≡ reported_of r (report.Mapped ranges blocks) → OnOk r (now ≡ added before (mapped_text ranges blocks))
+    → OnErr r (now ≡ before) → OnErr r (Rose faults_before faults_now) → Prints (map_lines answer) before now faults_before faults_now
+map_printed ranges blocks before now faults_before faults_now (Ok done) answer is printed stays rose =
+    subst (λ (a : Answer). Prints (map_lines a) before now faults_before faults_now) (sym is) (record {
+      front = record { printed = 1; same = printed };
+      whole = λ steady. printed;
+    })
+map_printed ranges blocks before now faults_before faults_now (Err failed) answer is printed stays rose =
+    subst (λ (a : Answer). Prints (map_lines a) before now faults_before faults_now) (sym is) (record {
+      front = record { printed = 0; same = stays };
+      whole = λ steady. stays;
+    })

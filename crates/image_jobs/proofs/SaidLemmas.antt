@@ -16,22 +16,6 @@ use Rattle.outside.specs.Counts.{Rose}
 
 -- ---- stages
 
--- what refuses a stage refuses what follows it
-pub refuses_then : {A B : Type 0} (wanted : Result A Answer) (next : A → Result B Answer) (got : Answer)
-    → Refuses is_counted wanted got → Refuses is_counted (wanted >>= next) got
-refuses_then {A} {B} wanted next got h = at (is_counted got) h
-  where
-    at : (b : Bool) → MatchBool b (Unit {0}) (wanted ≡ Err got) → MatchBool b (Unit {0}) ((wanted >>= next) ≡ Err got)
-    at true h = tt
-    at false h = ap (λ (w : Result A Answer). w >>= next) h
-
--- what follows a stage that gave something is what is given of that
-pub gives_then : {A B : Type 0} (wanted : Result A Answer) (next : A → Result B Answer) (x : A) (result : Result B Answer)
-    → wanted ≡ Ok x → Gives is_counted (next x) (λ y. y) (λ a. a) result
-    → Gives is_counted (wanted >>= next) (λ y. y) (λ a. a) result
-gives_then {A} {B} wanted next x result is h =
-    subst (λ (w : Result A Answer). Gives is_counted (w >>= next) (λ y. y) (λ a. a) result) (sym is) h
-
 -- a fault by its answer: a counted fault has a counted answer, and memory may be refused for a name in it
 pub refuses_as : {A E : Type 0} (wanted : Result A E) (counted : E → Bool) (f : E → Answer) (fault : E) (got : Answer)
     → (counted fault ≡ true → is_counted (f fault) ≡ true) → Refuses counted wanted fault → IsCopied (f fault) got
@@ -53,46 +37,6 @@ refuses_as {A} {E} wanted counted f fault got stays h (inl same) =
 pub ok_and : {A D E : Type 0} (f : D → E) (r : Result A D) (P : A → Type 0) → IsOkAnd r P → IsOkAnd (refused_by f r) P
 ok_and f (Ok x) P h = h
 ok_and f (Err e) P h = absurd h
-
--- ---- after the work
-
-done_says : {A : Type 0} (wanted : Result A Answer) (reports : A → Report → Type 0) (x : A) (report : Report) (before now : ℕ)
-    (answer : Answer) (k : Kind) → wanted ≡ Ok x → reports x report → reported_by report before now k
-    → says_by wanted reports answer k
-done_says wanted reports x report before now answer (Finished said) is fits h =
-    subst (λ w. IsOkAnd w (λ x. reports x said)) (sym is) (subst (reports x) (sym h.0) fits)
-done_says wanted reports x report before now answer LineFailed is fits h = subst IsOk (sym is) tt
-done_says wanted reports x report before now answer Counted is fits h = absurd h
-done_says wanted reports x report before now answer Refused is fits h = absurd h
-
-pub work_says : {A : Type 0} (wanted : Result A Answer) (reports : A → Report → Type 0) (x : A) (report : Report) (before now : ℕ)
-    (answer : Answer) → wanted ≡ Ok x → reports x report → Reports report before now answer → Says wanted reports answer
-work_says wanted reports x report before now answer is fits h =
-    done_says wanted reports x report before now answer (kind_of answer) is fits h
-
-done_expected : {A : Type 0} (wanted : Result A Answer) (x : A) (report : Report) (before now : ℕ) (answer : Answer) (k : Kind)
-    → wanted ≡ Ok x → reported_by report before now k → ¬ (Rose before now) → expected_by wanted answer k
-done_expected wanted x report before now answer (Finished said) is h steady = subst IsOk (sym is) tt
-done_expected wanted x report before now answer LineFailed is h steady = steady h
-done_expected wanted x report before now answer Counted is h steady = absurd h
-done_expected wanted x report before now answer Refused is h steady = absurd h
-
-pub work_expected : {A : Type 0} (wanted : Result A Answer) (x : A) (report : Report) (before now : ℕ) (answer : Answer)
-    → wanted ≡ Ok x → Reports report before now answer → ¬ (Rose before now) → IsExpected wanted answer
-work_expected wanted x report before now answer is h steady =
-    done_expected wanted x report before now answer (kind_of answer) is h steady
-
-done_caused : {E : Type 0} (shows : E → Type 0) (answer_of : E → Answer) (report : Report) (before now : ℕ) (answer : Answer)
-    (k : Kind) → reported_by report before now k → caused_by shows answer_of before now answer k
-done_caused shows answer_of report before now answer (Finished said) h = h.1
-done_caused shows answer_of report before now answer LineFailed h = h
-done_caused shows answer_of report before now answer Counted h = absurd h
-done_caused shows answer_of report before now answer Refused h = absurd h
-
-pub work_caused : {E : Type 0} (shows : E → Type 0) (answer_of : E → Answer) (report : Report) (before now : ℕ) (answer : Answer)
-    → Reports report before now answer → IsCausedBy shows answer_of before now answer
-work_caused shows answer_of report before now answer h =
-    done_caused shows answer_of report before now answer (kind_of answer) h
 
 -- ---- after a refusal
 
@@ -118,18 +62,6 @@ pub refusal_expected : {A : Type 0} (wanted : Result A Answer) (answer : Answer)
     → Refuses is_counted wanted answer → (kind_of answer ≡ Counted → answer ≡ NoMemory) → IsExpected wanted answer
 refusal_expected wanted answer error h memory = refused_expected wanted answer (kind_of answer) error h memory
 
-refused_caused : {E : Type 0} (shows : E → Type 0) (answer_of : E → Answer) (fault : E) (before now : ℕ) (answer : Answer)
-    (k : Kind) → HasError k → shows fault → IsCopied (answer_of fault) answer → caused_by shows answer_of before now answer k
-refused_caused shows answer_of fault before now answer (Finished said) error h is = absurd error
-refused_caused shows answer_of fault before now answer LineFailed error h is = absurd error
-refused_caused shows answer_of fault before now answer Counted error h is = record { fault = fault; shown = h; is = is }
-refused_caused shows answer_of fault before now answer Refused error h is = record { fault = fault; shown = h; is = is }
-
-pub refusal_caused : {E : Type 0} (shows : E → Type 0) (answer_of : E → Answer) (fault : E) (before now : ℕ) (answer : Answer)
-    → IsRefusal answer → shows fault → IsCopied (answer_of fault) answer → IsCausedBy shows answer_of before now answer
-refusal_caused shows answer_of fault before now answer error h is =
-    refused_caused shows answer_of fault before now answer (kind_of answer) error h is
-
 -- ---- the lines
 
 error_line_by : {A : Type 0} (wanted : Result A Answer) (lines : A → List (List ℕ)) (answer : Answer) (k : Kind) → HasError k
@@ -143,16 +75,3 @@ error_line_by wanted lines answer Refused h = refl
 pub error_line : {A : Type 0} (wanted : Result A Answer) (lines : A → List (List ℕ)) (answer : Answer) → IsRefusal answer
     → said_lines wanted lines answer ≡ error_text answer ∷ []
 error_line wanted lines answer h = error_line_by wanted lines answer (kind_of answer) h
-
-done_lines_by : {A : Type 0} (wanted : Result A Answer) (lines : A → List (List ℕ)) (x : A) (report : Report) (before now : ℕ)
-    (answer : Answer) (k : Kind) → wanted ≡ Ok x → reported_by report before now k → said_lines_by wanted lines answer k ≡ lines x
-done_lines_by wanted lines x report before now answer (Finished said) is h = ap (λ w. wanted_lines w lines) is
-done_lines_by wanted lines x report before now answer LineFailed is h = ap (λ w. wanted_lines w lines) is
-done_lines_by wanted lines x report before now answer Counted is h = absurd h
-done_lines_by wanted lines x report before now answer Refused is h = absurd h
-
--- after the work the lines are those of it
-pub done_line : {A : Type 0} (wanted : Result A Answer) (lines : A → List (List ℕ)) (x : A) (report : Report) (before now : ℕ)
-    (answer : Answer) → wanted ≡ Ok x → Reports report before now answer → said_lines wanted lines answer ≡ lines x
-done_line wanted lines x report before now answer is h =
-    done_lines_by wanted lines x report before now answer (kind_of answer) is h

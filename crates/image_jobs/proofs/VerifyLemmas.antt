@@ -23,7 +23,7 @@ use Rattle.verify_job.specs.Devices.{IsAttachedOr}
 use Rattle.verify_job.specs.Faults.{IsShown}
 use Rattle.verify_job.specs.declared.faults.VerifyJobFault.{VerifyJobFault}
 use Rattle.verify_job.specs.declared.faults.VerifyJobFault.TheVariants as fault
-use Rattle.image_jobs.proofs.SaidLemmas.{done_line, ok_and, refusal_caused, work_caused}
+use Rattle.image_jobs.proofs.SaidLemmas.{ok_and}
 use Rattle.image_jobs.specs.Asked.{named}
 use Rattle.image_jobs.specs.Devices.{AreAttached, IsAttachedAs, IsNamedAsBefore}
 use Rattle.image_jobs.specs.Printed.{IsRefusal, Reports, reported_by}
@@ -62,7 +62,7 @@ expected : (wanted : Result MapSource Answer) (answer : Answer) (k : Kind) → (
 expected wanted answer (Finished said) memory line h = finished wanted h
   where
     finished : (w : Result MapSource Answer) → IsOkAnd w (λ source. said ≡ report.Verified (digests_among source.map.ranges)) → IsOk w
-    finished (Ok source) h = tt
+    finished (Ok source) h = refl
     finished (Err refusal) h = absurd h
 expected wanted answer LineFailed memory line h = absurd (line refl)
 expected wanted answer Counted memory line h = memory refl
@@ -111,12 +111,6 @@ verify_completes file name before now lines_before lines_now old new f h shown s
     expected (source_wanted file name) (verify_answer name f) (kind_of (verify_answer name f))
     (memory_alone before now old new name f shown steady device) (refused_line name f) (verify_refused file name f h)
 
-pub verify_caused : (name : List ℕ) (before now : Counts) (old new : Meter) (lines_before lines_now : ℕ) (f : VerifyJobFault)
-    → IsRefusal (verify_answer name f) → IsShown before now old new f
-    → VerifyCause name before now old new lines_before lines_now (verify_answer name f)
-verify_caused name before now old new lines_before lines_now f error h =
-    refusal_caused (IsShown before now old new) (verify_answer name) f lines_before lines_now (verify_answer name f) error h (inl refl)
-
 map_compared : (s : MapSource) (bytes name : List ℕ) (f : SourceFault) → MapAnswers (Ok s) (Err (fault.Map f))
     → compared_by s.map bytes (source_answer name f) (kind_of (source_answer name f))
 map_compared s bytes name source.Missing h = cc
@@ -141,91 +135,3 @@ refused_compared (Ok source) bytes name fault.NoMemory h target = tt
 pub verify_compared : (file : Tree) (name bytes : List ℕ) (f : VerifyJobFault) → MapAnswers (map_said (file name)) (Err f)
     → Verifies (map_said (file name)) bytes (Err f) → Compares file name bytes (verify_answer name f)
 verify_compared file name bytes f h target = refused_compared (map_said (file name)) bytes name f h target
-
--- ---- after the work
-
-done_says : (said : Result MapSource SourceFault) (name : List ℕ) (count before now : ℕ) (answer : Answer) (k : Kind)
-    → MapAnswers said (Ok count) → reported_by (report.Verified count) before now k
-    → verify_says (refused_by (source_answer name) said) answer k
-done_says (Err refusal) name count before now answer k h report = absurd h
-done_says (Ok source) name count before now answer (Finished said) h report = report.0 ∙ ap report.Verified h
-done_says (Ok source) name count before now answer LineFailed h report = tt
-done_says (Ok source) name count before now answer Counted h report = absurd report
-done_says (Ok source) name count before now answer Refused h report = absurd report
-
-pub verify_done : (file : Tree) (name : List ℕ) (count before now : ℕ) (answer : Answer) → MapAnswers (map_said (file name)) (Ok count)
-    → Reports (report.Verified count) before now answer → VerifyAnswers file name answer
-verify_done file name count before now answer h report =
-    done_says (map_said (file name)) name count before now answer (kind_of answer) h report
-
-reported_line : (wanted : Report) (before now : ℕ) (k : Kind) → reported_by wanted before now k → ¬ (Rose before now) → k ≡ LineFailed → ⊥
-reported_line wanted before now (Finished said) h steady kind = cc
-reported_line wanted before now LineFailed h steady kind = steady h
-reported_line wanted before now Counted h steady kind = absurd h
-reported_line wanted before now Refused h steady kind = absurd h
-
-reported_counted : (wanted : Report) (before now : ℕ) (answer : Answer) (k : Kind) → reported_by wanted before now k → k ≡ Counted → answer ≡ NoMemory
-reported_counted wanted before now answer (Finished said) h kind = cc
-reported_counted wanted before now answer LineFailed h kind = cc
-reported_counted wanted before now answer Counted h kind = absurd h
-reported_counted wanted before now answer Refused h kind = absurd h
-
-pub verify_done_completes : (file : Tree) (name : List ℕ) (before now : Counts) (lines_before lines_now : ℕ) (old new : Meter)
-    (count : ℕ) (answer : Answer) → MapAnswers (map_said (file name)) (Ok count)
-    → Reports (report.Verified count) lines_before lines_now answer
-    → VerifyCompletes file name before now lines_before lines_now old new answer
-verify_done_completes file name before now lines_before lines_now old new count answer h report steady printed device =
-    expected (source_wanted file name) answer (kind_of answer)
-    (reported_counted (report.Verified count) lines_before lines_now answer (kind_of answer) report)
-    (reported_line (report.Verified count) lines_before lines_now (kind_of answer) report printed)
-    (verify_done file name count lines_before lines_now answer h report)
-
-pub verify_done_caused : (name : List ℕ) (before now : Counts) (old new : Meter) (lines_before lines_now count : ℕ) (answer : Answer)
-    → Reports (report.Verified count) lines_before lines_now answer
-    → VerifyCause name before now old new lines_before lines_now answer
-verify_done_caused name before now old new lines_before lines_now count answer h =
-    work_caused (IsShown before now old new) (verify_answer name) (report.Verified count) lines_before lines_now answer h
-
-done_compared : (map : BlockMap) (bytes : List ℕ) (wanted : Report) (before now : ℕ) (answer : Answer) (k : Kind) → IsVerified map bytes
-    → reported_by wanted before now k → compared_by map bytes answer k
-done_compared map bytes wanted before now answer (Finished said) same h = same
-done_compared map bytes wanted before now answer LineFailed same h = same
-done_compared map bytes wanted before now answer Counted same h = absurd h
-done_compared map bytes wanted before now answer Refused same h = absurd h
-
-said_compared : (said : Result MapSource SourceFault) (bytes name : List ℕ) (count before now : ℕ) (answer : Answer)
-    → Verifies said bytes (Ok count) → Reports (report.Verified count) before now answer
-    → compared_with (refused_by (source_answer name) said) bytes answer
-said_compared (Err refusal) bytes name count before now answer h report = tt
-said_compared (Ok source) bytes name count before now answer h report =
-    done_compared source.map bytes (report.Verified count) before now answer (kind_of answer) h report
-
-pub verify_done_compared : (file : Tree) (name bytes : List ℕ) (count before now : ℕ) (answer : Answer)
-    → Verifies (map_said (file name)) bytes (Ok count) → Reports (report.Verified count) before now answer
-    → Compares file name bytes answer
-verify_done_compared file name bytes count before now answer h report =
-    said_compared (map_said (file name)) bytes name count before now answer h report
-
-said_line : (said : Result MapSource SourceFault) (name : List ℕ) (count : ℕ) → MapAnswers said (Ok count)
-    → (source : MapSource) × (refused_by (source_answer name) said ≡ Ok source) × (count ≡ digests_among source.map.ranges)
-said_line (Err refusal) name count h = absurd h
-said_line (Ok source) name count h = (source, refl, h)
-
-pub verify_line : (file : Tree) (name : List ℕ) (count before now : ℕ) (answer : Answer) → MapAnswers (map_said (file name)) (Ok count)
-    → Reports (report.Verified count) before now answer → verify_lines file name answer ≡ verified_text count ∷ []
-verify_line file name count before now answer h report =
-    let (source, is, same) = said_line (map_said (file name)) name count h in
-    done_line (source_wanted file name) verified_lines source (report.Verified count) before now answer is report
-    ∙ ap (λ n. verified_text n ∷ []) (sym same)
-
--- ---- the devices
-
-pub target_attached : (target : List ℕ) (old new : Meter) → IsAttachedOr target old new → AreAttached (named (Some target) None) old new
-target_attached target old new (inl attaches) = record {
-  target = inl (record { attached = attaches.attached; name = attaches.name });
-  journal = record { attached = attaches.other_attached; name = attaches.other_name };
-}
-target_attached target old new (inr same) = record {
-  target = inr (record { attached = ap (of_device Target) same.attached; name = ap (of_device Target) same.name });
-  journal = record { attached = ap (of_device Journal) same.attached; name = ap (of_device Journal) same.name };
-}

@@ -1,9 +1,11 @@
 //! `map`: the block map of an image that is built.
-ghost use Rattle.std.specs.Prelude.{◌≤◌, [], ◌∷◌, All, IfErr};
+ghost use Rattle.std.specs.Prelude.{◌≡◌, ◌≤◌, [], ◌∷◌, All, IfErr, OnErr, OnOk};
 ghost use Rattle.base_fields.specs.Numbers.{IsPowerBetween};
-ghost use Rattle.outside.specs.Counts.{NoneFell};
+ghost use Rattle.outside.specs.Counts.{NoneFell, Rose};
 ghost use Rattle.outside.specs.Files.{OthersStay};
+ghost use Rattle.outside.specs.Printer.{added};
 ghost use Rattle.answer_lines.specs.Answer.{error_text};
+ghost use Rattle.answer_lines.specs.Lines.{mapped_text};
 ghost use Rattle.answer_lines.specs.declared.answer.Report.TheVariants as report;
 ghost use Rattle.conf_keys.specs.Within.{IsWithin};
 ghost use Rattle.image_graph.specs.IsGraph.{IsGraph};
@@ -23,7 +25,7 @@ use base_fields::Name;
 use conf_sections::{Conf, Vars};
 use image_graph::Graph;
 use map_job::{Mapped, MappingFault, map_image};
-use outside::{Files, Printer};
+use outside::{Files, PrintErr, Printer};
 use range_digest::DigestFault;
 use std::alloc::Global;
 
@@ -58,9 +60,7 @@ fn report_mapped<P: Printer>(mapped: Mapped, out: &mut P) -> Answer
     ensures prints { Prints (map_lines result) (P.lines out.old) (P.lines out.new) (P.faults out.old) (P.faults out.new) }
     ensures none_fell { P.faults out.old ≤ P.faults out.new }
 {
-    let mut room = [0; LINE_ROOM];
-    let length = mapped_line(mapped.ranges, mapped.blocks, &mut room);
-    let printed = out.line(&room[..length]);
+    let printed = print_mapped(mapped, out);
     reported(
         printed,
         Report::Mapped {
@@ -68,6 +68,19 @@ fn report_mapped<P: Printer>(mapped: Mapped, out: &mut P) -> Answer
             blocks: mapped.blocks,
         },
     )
+}
+
+fn print_mapped<P: Printer>(mapped: Mapped, out: &mut P) -> Result<(), PrintErr>
+    ensures printed { OnOk result (P.lines out.new ≡ added (P.lines out.old) (mapped_text mapped.ranges mapped.blocks)) }
+    ensures ok { OnOk result (P.faults out.new ≡ P.faults out.old) }
+    ensures failed { OnErr result (Rose (P.faults out.old) (P.faults out.new)) }
+    ensures err { OnErr result (P.lines out.new ≡ P.lines out.old) }
+    ensures none_fell { P.faults out.old ≤ P.faults out.new }
+{
+    let mut room = [0; LINE_ROOM];
+    let length = mapped_line(mapped.ranges, mapped.blocks, &mut room);
+    out.line(&room[..length])?;
+    Ok(())
 }
 
 // The map of a configuration's image.

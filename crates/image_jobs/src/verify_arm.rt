@@ -1,6 +1,7 @@
 //! `verify`: a target beside the map of a file.
-ghost use Rattle.std.specs.Prelude.{◌≡◌, ◌≤◌, [], ◌∷◌, None, Some, length};
-ghost use Rattle.outside.specs.Counts.{NoneFell};
+ghost use Rattle.std.specs.Prelude.{◌≡◌, ◌≤◌, [], ◌∷◌, None, OnErr, OnOk, Some, length};
+ghost use Rattle.outside.specs.Counts.{NoneFell, Rose};
+ghost use Rattle.outside.specs.Printer.{added};
 ghost use Rattle.answer_lines.specs.Answer.{error_text};
 ghost use Rattle.answer_lines.specs.Lines.{verified_text};
 ghost use Rattle.answer_lines.specs.declared.answer.Report.TheVariants as report;
@@ -21,7 +22,7 @@ use answer_lines::{Answer, LINE_ROOM, Report, verified_line};
 use base_fields::Name;
 use bench::Bench;
 use map_source::SourceFault;
-use outside::{Files, Printer};
+use outside::{Files, PrintErr, Printer};
 use std::alloc::Global;
 use verify_job::{VerifyJobFault, verify_target};
 
@@ -62,10 +63,21 @@ fn report_verified<P: Printer>(ranges: u64, out: &mut P) -> Answer
     ensures prints { Prints (verified_text ranges ∷ []) (P.lines out.old) (P.lines out.new) (P.faults out.old) (P.faults out.new) }
     ensures none_fell { P.faults out.old ≤ P.faults out.new }
 {
+    let printed = print_verified(ranges, out);
+    reported(printed, Report::Verified { ranges })
+}
+
+fn print_verified<P: Printer>(ranges: u64, out: &mut P) -> Result<(), PrintErr>
+    ensures printed { OnOk result (P.lines out.new ≡ added (P.lines out.old) (verified_text ranges)) }
+    ensures ok { OnOk result (P.faults out.new ≡ P.faults out.old) }
+    ensures failed { OnErr result (Rose (P.faults out.old) (P.faults out.new)) }
+    ensures err { OnErr result (P.lines out.new ≡ P.lines out.old) }
+    ensures none_fell { P.faults out.old ≤ P.faults out.new }
+{
     let mut room = [0; LINE_ROOM];
     let length = verified_line(ranges, &mut room);
-    let printed = out.line(&room[..length]);
-    reported(printed, Report::Verified { ranges })
+    out.line(&room[..length])?;
+    Ok(())
 }
 
 fn answer_of_source(map: Name, fault: SourceFault) -> Answer

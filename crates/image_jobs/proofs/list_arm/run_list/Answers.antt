@@ -1,7 +1,6 @@
-use Rattle.std.proofs.Common.{ap, rules, sym, subst}
-use Rattle.base_fields.specs.Results.{refused_by}
-use Rattle.list_job.specs.Printed.{listing_lines}
-use Rattle.image_jobs.proofs.ListLemmas.{list_caused, list_completes, list_done, list_done_caused, list_done_completes, list_refused}
-use Rattle.image_jobs.proofs.SaidLemmas.{done_line, error_line}
-use Rattle.image_jobs.specs.ListArm.{list_answer, list_said}
+use Rattle.std.proofs.Common.{rules}
+use Rattle.image_jobs.proofs.SaidLemmas.{error_line}
 use Rattle.image_jobs.proofs.list_arm.run_list.Goals as goal
+
+pub returns-in-Err-clause-prints : goal.returns-in-Err-clause-prints
+returns-in-Err-clause-prints g c = λ told. rw (error_line _ _ c.refuse.result c.refuse.ensures.refusal) (search rules)
