@@ -1,20 +1,22 @@
 -- What is wrong with a text that says two values has two that differ.
-use Rattle.std.proofs.Common.{◌≡◌, ◌≢◌, ℕ, zero, suc, ◌+◌, ◌-◌, ◌<◌, ◌&&◌, Bool, true, false, not, nat_eq, nat_le, is_some}
-use Rattle.std.proofs.Common.{Option, Some, None, Result, Ok, Err, List, [], ◌∷◌, length, ap, arith, refl, subst, if◌then◌else◌}
+use Rattle.std.proofs.Common.{◌≡◌, ◌≢◌, ℕ, zero, suc, ◌+◌, ◌-◌, ◌<◌, Bool, true, false, ◌&&◌, not, nat_eq, nat_le}
+use Rattle.std.proofs.Common.{if◌then◌else◌, Option, Some, None, is_some, Result, Ok, Err, List, [], ◌∷◌, length}
+use Rattle.std.proofs.Common.{ap, arith, refl, subst}
 use Rattle.std.specs.Int.{div_ceil}
 use Rattle.std.specs.Str.{bytes_eq}
 use Rattle.std.proofs.lemmas.Bool.{eqb-false, leb-false}
 use Rattle.std.proofs.lemmas.Slice.Eq.{bytes_eq-Decides}
 use Rattle.base_fields.specs.Results.{◌>>=◌, or_else, when}
 use Rattle.block_map.specs.Maps.{blocks_in}
-use Rattle.block_map.specs.declared.maps.BlockMap.{BlockMap}
 use Rattle.block_map.specs.declared.maps.Range.{Range}
-use Rattle.bmap_grammar.specs.Document.{Refuses, counted, map_of, map_told, one_then, said, same_count, stood_from, sum_of}
+use Rattle.bmap_grammar.specs.Document.{Refuses, counted, enough_blocks, map_of, map_told, one_then, said, same_count}
+use Rattle.bmap_grammar.specs.Document.{same_sum, stood_from, sum_of}
 use Rattle.bmap_grammar.specs.Items.{piece_of}
-use Rattle.bmap_grammar.specs.Stood.{is_first, is_front, is_inside, is_map, may_block, may_end, may_follow, may_size, may_type}
-use Rattle.bmap_grammar.specs.Stood.{next_of, nothing, number_stands, said_by, stands}
+use Rattle.bmap_grammar.specs.Stood.{is_first, is_front, is_inside, is_map, may_block, may_end, may_follow, may_size}
+use Rattle.bmap_grammar.specs.Stood.{may_type, next_of, nothing, number_stands, said_by, stands}
 use Rattle.bmap_grammar.specs.declared.faults.MapFault.{MapFault}
-use Rattle.bmap_grammar.specs.declared.faults.MapFault.TheVariants.{BadMap, OtherVersion, OtherDigest, BadCounts, SumDiffers, NoMemory}
+use Rattle.bmap_grammar.specs.declared.faults.MapFault.TheVariants.{BadMap, OtherVersion, OtherDigest}
+use Rattle.bmap_grammar.specs.declared.faults.MapFault.TheVariants.{BadCounts, SumDiffers, NoMemory}
 use Rattle.bmap_grammar.specs.declared.items.Field.{Field}
 use Rattle.bmap_grammar.specs.declared.items.Field.TheVariants as field
 use Rattle.bmap_grammar.specs.declared.items.Item.{Item}
@@ -41,7 +43,8 @@ Differs NoMemory = Unit {0}
 alike : (e f : MapFault) → Differs e → e ≡ f → Differs f
 alike e f h same = subst Differs same h
 
-tested : {A : Type 0} (test : Bool) (x : A) (e f : MapFault) → (test ≡ false → Differs e) → when test x e ≡ Err f → Differs f
+tested : {A : Type 0} (test : Bool) (x : A) (e f : MapFault) → (test ≡ false → Differs e) →
+    when test x e ≡ Err f → Differs f
 tested true x e f h is = absurd (cc)
 tested false x e f h is = let same : e ≡ f = cc in alike e f (h refl) same
 
@@ -55,7 +58,8 @@ bound (Err e) k f first next is = let same : e ≡ f = cc in first (ap (λ g. Er
 
 -- ---- the items
 
-number_differs : (at : ℕ) (s : Stood) (kind : Field) (n : ℕ) (f : MapFault) → number_stands at s kind n ≡ Err f → Differs f
+number_differs : (at : ℕ) (s : Stood) (kind : Field) (n : ℕ) (f : MapFault) →
+    number_stands at s kind n ≡ Err f → Differs f
 number_differs at s field.ImageSize n f is = placed (may_size s n) _ at f is
 number_differs at s field.BlockSize n f is = placed (may_block s n) _ at f is
 number_differs at s field.BlocksCount n f is = placed (is_inside s.stage && not (is_some s.blocks)) _ at f is
@@ -108,22 +112,28 @@ less want got fails = λ same. let above : want < got = leb-false got want fails
 unlike : (want got : List ℕ) → bytes_eq want got ≡ false → want ≢ got
 unlike want got fails = λ same. let passes = (bytes_eq-Decides want got).1 same in absurd (cc)
 
+same_differs : (want got : ℕ) (f : MapFault) → same_count want got ≡ Err f → Differs f
+same_differs want got f is = tested (nat_eq want got) tt (BadCounts want got) f (unequal want got) is
+
+enough_differs : (want got : ℕ) (f : MapFault) → enough_blocks want got ≡ Err f → Differs f
+enough_differs want got f is = tested (nat_le got want) tt (BadCounts want got) f (less want got) is
+
+sums_differ : (want got : List ℕ) (f : MapFault) → same_sum want got ≡ Err f → Differs f
+sums_differ want got f is = tested (bytes_eq want got) tt (SumDiffers want got) f (unlike want got) is
+
 counts_differ : (t : Told) (ranges : List Range) (f : MapFault) → counted t ranges ≡ Err f → Differs f
 counts_differ t ranges f is =
-    bound (same_count t.blocks (div_ceil t.size t.block)) _ f
-    (tested (nat_eq t.blocks (div_ceil t.size t.block)) tt (BadCounts t.blocks (div_ceil t.size t.block)) f (unequal t.blocks (div_ceil t.size t.block)))
-    (λ all. bound (same_count t.mapped (blocks_in ranges)) _ f
-    (tested (nat_eq t.mapped (blocks_in ranges)) tt (BadCounts t.mapped (blocks_in ranges)) f (unequal t.mapped (blocks_in ranges)))
-    (λ some. tested (nat_le (next_of ranges) t.blocks) tt (BadCounts t.blocks (next_of ranges)) f (less t.blocks (next_of ranges))))
+    bound (same_count t.blocks (div_ceil t.size t.block)) _ f (same_differs t.blocks (div_ceil t.size t.block) f)
+    (λ all. bound (same_count t.mapped (blocks_in ranges)) _ f (same_differs t.mapped (blocks_in ranges) f)
+    (λ some. enough_differs t.blocks (next_of ranges) f))
     is
 
-told_differs : (text : List ℕ) (ranges : List Range) (t : Told) (f : MapFault) → map_told text ranges t ≡ Err f → Differs f
+told_differs : (text : List ℕ) (ranges : List Range) (t : Told) (f : MapFault) → map_told text ranges t ≡ Err f →
+    Differs f
 told_differs text ranges t f is =
     let sum = sum_of text t.sum.at in
     bound (counted t ranges) _ f (counts_differ t ranges f)
-    (λ right. bound (when (bytes_eq t.sum.digest sum) tt (SumDiffers t.sum.digest sum)) _ f
-    (tested (bytes_eq t.sum.digest sum) tt (SumDiffers t.sum.digest sum) f (unlike t.sum.digest sum))
-    (λ same made. absurd (cc)))
+    (λ right. bound (same_sum t.sum.digest sum) _ f (sums_differ t.sum.digest sum f) (λ same made. absurd (cc)))
     is
 
 lacking : (o : Option Told) (place : ℕ) (f : MapFault) → or_else o (BadMap place) ≡ Err f → Differs f

@@ -1,10 +1,12 @@
 -- What shows that no map was read.
-use Rattle.std.specs.Prelude.{◌≢◌, ℕ, ◌<◌, ◌≤◌, Bool, true, false}
+use Rattle.std.specs.Prelude.{◌≢◌, Bool, true, false}
 use Rattle.bmap_grammar.specs.declared.faults.MapFault.{MapFault}
 use Rattle.bmap_grammar.specs.declared.faults.MapFault.TheVariants as text
 use Rattle.outside.specs.Counts.{Counts, Rose}
 use Rattle.map_source.specs.declared.faults.SourceFault.{SourceFault}
-use Rattle.map_source.specs.declared.faults.SourceFault.TheVariants.{Missing, SourceShort, FileFault, BadMap, OtherVersion, OtherDigest, BadCounts, SumDiffers, NoMemory}
+use Rattle.map_source.specs.declared.faults.SourceFault.TheVariants.{Missing, SourceShort, FileFault, NoMemory}
+use Rattle.map_source.specs.declared.faults.SourceFault.TheVariants.{BadMap, OtherVersion, OtherDigest}
+use Rattle.map_source.specs.declared.faults.SourceFault.TheVariants.{BadCounts, SumDiffers}
 
 -- what is wrong with a text, as what is wrong with the file
 abbrev pub fault_of : MapFault → SourceFault

@@ -36,14 +36,19 @@ fn source_in(alloc: Global, text: &[u8]) -> Result<MapSource, SourceFault>
     }
 }
 
-/// Reads the map of the file of that name, whose length is asked for once. Takes memory for the whole text, which has at
-/// most 33,554,432 bytes, and for the map.
-pub fn read_map<F: Files>(alloc: Global, files: &mut F, name: &str) -> Result<MapSource, SourceFault>
+/// Reads the map of the file of that name, whose length is asked for once. Takes memory for the whole text, which has
+/// at most 33,554,432 bytes, and for the map.
+pub fn read_map<F: Files>(
+    alloc: Global,
+    files: &mut F,
+    name: &str,
+) -> Result<MapSource, SourceFault>
     ensures none_fell { NoneFell (F.counts files.old) (F.counts files.new) }
     ensures same_files { F.file files.new ≡ F.file files.old }
     ensures cause { IfErr result (IsShown (F.counts files.old) (F.counts files.new)) }
     ensures holds { IfOk result (λ source. IsMap source.map) }
-    ensures said { F.told → Gives is_counted (map_said (F.file files.old name.now)) (λ source. source) (λ fault. fault) result }
+    ensures said { F.told →
+        Gives is_counted (map_said (F.file files.old name.now)) (λ source. source) (λ fault. fault) result }
 {
     match read_text(alloc, files, name) {
         Ok(text) => source_in(alloc, text.bytes()),

@@ -43,11 +43,13 @@ fn read_bytes<F: Files>(
     name: &str,
     len: u64,
 ) -> Result<Bytes, SourceFault>
-    requires there { F.told → IsThere (F.file files.old) name.now (len ≡ length (bytes_of (F.file files.old) name.now)) }
+    requires there { F.told →
+        IsThere (F.file files.old) name.now (len ≡ length (bytes_of (F.file files.old) name.now)) }
     ensures none_fell { NoneFell (F.counts files.old) (F.counts files.new) }
     ensures same_files { F.file files.new ≡ F.file files.old }
     ensures cause { IfErr result (IsShown (F.counts files.old) (F.counts files.new)) }
-    ensures there { F.told → Gives is_counted (or_else (F.file files.old name.now) SourceFault.Missing) (λ bytes. bytes) (λ fault. fault) result }
+    ensures there { F.told →
+        Gives is_counted (or_else (F.file files.old name.now) SourceFault.Missing) (λ bytes. bytes) (λ fault. fault) result }
 {
     let Ok(mut text) = room_of(alloc, len as usize) else {
         return Err(SourceFault::NoMemory);
@@ -60,17 +62,14 @@ fn read_bytes<F: Files>(
     }
 }
 
-/// The text of the file of that name. Its length is asked for first, and no byte of one that is too long is read. Takes the
-/// memory of the whole text.
-pub fn read_text<F: Files>(
-    alloc: Global,
-    files: &mut F,
-    name: &str,
-) -> Result<Bytes, SourceFault>
+/// The text of the file of that name. Its length is asked for first, and no byte of one that is too long is read. Takes
+/// the memory of the whole text.
+pub fn read_text<F: Files>(alloc: Global, files: &mut F, name: &str) -> Result<Bytes, SourceFault>
     ensures none_fell { NoneFell (F.counts files.old) (F.counts files.new) }
     ensures same_files { F.file files.new ≡ F.file files.old }
     ensures cause { IfErr result (IsShown (F.counts files.old) (F.counts files.new)) }
-    ensures said { F.told → Gives is_counted (text_said (F.file files.old name.now)) (λ text. text) (λ fault. fault) result }
+    ensures said { F.told →
+        Gives is_counted (text_said (F.file files.old name.now)) (λ text. text) (λ fault. fault) result }
 {
     let len = length_of(files, name)?;
     if len > MOST_BYTES {

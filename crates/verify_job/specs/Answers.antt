@@ -1,5 +1,5 @@
 -- What verifying answers, by the map that is said of a file and by what the target reads.
-use Rattle.std.specs.Prelude.{◌≡◌, ◌≢◌, ℕ, ◌<◌, ◌≤◌, List, length, Result, Ok, Err, IsOk, IsOkAnd}
+use Rattle.std.specs.Prelude.{◌≡◌, ℕ, ◌<◌, ◌≤◌, List, length, Result, Ok, Err, IsOk, IsOkAnd}
 use Rattle.block_map.specs.declared.maps.BlockMap.{BlockMap}
 use Rattle.job_stages.specs.Stages.{Refuses}
 use Rattle.map_source.specs.Faults.{is_counted}
@@ -7,7 +7,8 @@ use Rattle.map_source.specs.declared.faults.SourceFault.{SourceFault}
 use Rattle.map_source.specs.declared.sources.MapSource.{MapSource}
 use Rattle.verifier.specs.Checks.{IsDigestOf, IsFirstToDiffer, IsVerified, digests_among}
 use Rattle.verify_job.specs.declared.faults.VerifyJobFault.{VerifyJobFault}
-use Rattle.verify_job.specs.declared.faults.VerifyJobFault.TheVariants.{Map, TargetTooSmall, TargetDiffers, DeviceFault, NoMemory}
+use Rattle.verify_job.specs.declared.faults.VerifyJobFault.TheVariants.{Map, TargetTooSmall, TargetDiffers}
+use Rattle.verify_job.specs.declared.faults.VerifyJobFault.TheVariants.{DeviceFault, NoMemory}
 
 -- ---- over told files
 

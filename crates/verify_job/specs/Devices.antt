@@ -10,7 +10,8 @@ use Rattle.verifier.specs.Checks.{mapped_bytes}
 use Rattle.verifier.specs.declared.faults.VerifyFault.{VerifyFault}
 use Rattle.verifier.specs.declared.faults.VerifyFault.TheVariants as target
 use Rattle.verify_job.specs.declared.faults.VerifyJobFault.{VerifyJobFault}
-use Rattle.verify_job.specs.declared.faults.VerifyJobFault.TheVariants.{Map, TargetTooSmall, TargetDiffers, DeviceFault, NoMemory}
+use Rattle.verify_job.specs.declared.faults.VerifyJobFault.TheVariants.{Map, TargetTooSmall, TargetDiffers}
+use Rattle.verify_job.specs.declared.faults.VerifyJobFault.TheVariants.{DeviceFault, NoMemory}
 
 -- ---- names
 

@@ -1,5 +1,5 @@
 -- What shows that a target isn't verified.
-use Rattle.std.specs.Prelude.{◌≡◌, ◌≢◌, ℕ, ◌<◌}
+use Rattle.std.specs.Prelude.{◌≡◌, ◌≢◌, ◌<◌}
 use Rattle.bench.specs.Meter.{Meter}
 use Rattle.bench.specs.declared.Dev.TheVariants.{Target}
 use Rattle.map_source.specs.Faults.{IsShown as IsMapShown}
@@ -7,7 +7,8 @@ use Rattle.outside.specs.Counts.{Counts, Rose}
 use Rattle.verifier.specs.declared.faults.VerifyFault.{VerifyFault}
 use Rattle.verifier.specs.declared.faults.VerifyFault.TheVariants as target
 use Rattle.verify_job.specs.declared.faults.VerifyJobFault.{VerifyJobFault}
-use Rattle.verify_job.specs.declared.faults.VerifyJobFault.TheVariants.{Map, TargetTooSmall, TargetDiffers, DeviceFault, NoMemory}
+use Rattle.verify_job.specs.declared.faults.VerifyJobFault.TheVariants.{Map, TargetTooSmall, TargetDiffers}
+use Rattle.verify_job.specs.declared.faults.VerifyJobFault.TheVariants.{DeviceFault, NoMemory}
 
 -- what is wrong with the target, as what is wrong with the job
 abbrev pub fault_of : VerifyFault → VerifyJobFault

@@ -9,7 +9,10 @@ pub enum VerifyJobFault {
     /// The map isn't read.
     Map(SourceFault),
     /// The target has `has` bytes, fewer than the `needs` of the map's image.
-    TargetTooSmall { has: u64, needs: u64 },
+    TargetTooSmall {
+        has: u64,
+        needs: u64,
+    },
     /// Range `range`, counted from 0, is the first with other bytes than the map says: `want` is its digest in the map,
     /// `got` that of the target's bytes.
     TargetDiffers {
@@ -18,7 +21,9 @@ pub enum VerifyJobFault {
         got: [u8; 32],
     },
     /// A call on the device failed.
-    DeviceFault { dev: Dev },
+    DeviceFault {
+        dev: Dev,
+    },
     /// Memory was refused.
     NoMemory,
 }

@@ -20,8 +20,8 @@ use std::alloc::Global;
 /// The bytes of the buffer through which the target is read.
 const BUFFER: u32 = 1_048_576;
 
-/// Compares the target with the map that the file `map` has, and gives the number of ranges that have a digest. The target
-/// is attached under the name `target` once the map is read and the memory for one buffer of 1 MiB is taken.
+/// Compares the target with the map that the file `map` has, and gives the number of ranges that have a digest. The
+/// target is attached under the name `target` once the map is read and the memory for one buffer of 1 MiB is taken.
 pub fn verify_target<F: Files, B: Bench>(
     alloc: Global,
     files: &mut F,
@@ -31,13 +31,15 @@ pub fn verify_target<F: Files, B: Bench>(
 ) -> Result<u64, VerifyJobFault>
     requires { HasNoOther (B.meter bench.old) Dev.Target target.now }
 
-    // Over told files: the fault of the map, or an answer by the map that is said. Over a told bench, too: exactly where
-    // the target is what that map says.
+    // Over told files: the fault of the map, or an answer by the map that is said. Over a told bench, too: Ok exactly
+    // where the target has what that map says.
     ensures said { F.told → MapAnswers (map_said (F.file files.old map.now)) result }
-    ensures verified { F.told → B.told → Verifies (map_said (F.file files.old map.now)) ((B.disk bench.old).reads Dev.Target) result }
+    ensures verified { F.told → B.told →
+        Verifies (map_said (F.file files.old map.now)) ((B.disk bench.old).reads Dev.Target) result }
 
     // Told or not.
-    ensures cause { IfErr result (IsShown (F.counts files.old) (F.counts files.new) (B.meter bench.old) (B.meter bench.new)) }
+    ensures cause { IfErr result
+        (IsShown (F.counts files.old) (F.counts files.new) (B.meter bench.old) (B.meter bench.new)) }
     ensures none_fell { NoneFell (F.counts files.old) (F.counts files.new) }
     ensures same_files { F.file files.new ≡ F.file files.old }
 
@@ -47,7 +49,9 @@ pub fn verify_target<F: Files, B: Bench>(
     ensures stays { (each : Dev) → StillLeaves each (B.disk bench.old) (B.disk bench.new) }
     ensures names { Names target.now (B.meter bench.old) (B.meter bench.new) result }
     ensures attached { IsAttachedOr target.now (B.meter bench.old) (B.meter bench.new) }
-    ensures bill { F.told → CostsOn Dev.Target (work_said (length target.now) (map_said (F.file files.old map.now))) (B.meter bench.old) (B.meter bench.new) }
+    ensures bill { F.told →
+        CostsOn Dev.Target (work_said (length target.now) (map_said (F.file files.old map.now)))
+        (B.meter bench.old) (B.meter bench.new) }
     ensures bounded { IsBounded (length target.now) (B.meter bench.old) (B.meter bench.new) }
 {
     let source = match read_map(alloc, files, map) {
