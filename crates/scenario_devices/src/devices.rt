@@ -1,5 +1,5 @@
 //! The two devices of a scenario.
-ghost use Rattle.std.specs.Prelude.{◌≡◌, OnOk};
+ghost use Rattle.std.specs.Prelude.{◌≡◌, ℕ, List, OnOk, Some};
 ghost use Rattle.bench.specs.declared.Dev.TheVariants.{Journal, Target};
 ghost use Rattle.bench.specs.Meter.{IsAttached, SameNames};
 ghost use Rattle.scenario_devices.specs.Naming.{IsKept, IsNamedAt};
@@ -41,15 +41,8 @@ impl Devices {
         ensures target { OnOk result (IsKept target self.new.target_word) }
         ensures journal { OnOk result (IsKept journal self.new.journal_word) }
     {
-        if !may_have(&self.target_word, &target) || !may_have(&self.journal_word, &journal) {
-            bail!("a device has another name");
-        }
-        if target.is_some() {
-            self.target_word = target;
-        }
-        if journal.is_some() {
-            self.journal_word = journal;
-        }
+        keep_word(&mut self.target_word, target)?;
+        keep_word(&mut self.journal_word, journal)?;
         Ok(())
     }
 
@@ -127,11 +120,21 @@ impl Devices {
     }
 }
 
-// Whether a device that may have the name `kept` may be attached under the word `given`.
-fn may_have(kept: &Option<Name>, given: &Option<Name>) -> bool {
-    match (kept, given) {
-        (Some(kept), Some(given)) => kept.text() == given.text(),
-        _ => true,
+// Keeps the word of a command, where it has one and no other is kept.
+fn keep_word(kept: &mut Option<Name>, given: Option<Name>) -> Result<()>
+    ensures given { OnOk result (IsKept given kept.new) }
+    ensures stays { (word : List ℕ) → kept.old ≡ Some word → kept.new ≡ Some word }
+{
+    let Some(given) = given else {
+        return Ok(());
+    };
+    match kept {
+        None => {
+            *kept = Some(given);
+            Ok(())
+        }
+        Some(word) if word.text() == given.text() => Ok(()),
+        Some(_) => bail!("a device has another name"),
     }
 }
 
