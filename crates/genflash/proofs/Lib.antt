@@ -1,2 +1,0 @@
--- lemmas
-mod Names
