@@ -1,0 +1,7 @@
+-- lemmas
+pub mod EndLemmas
+pub mod NeedLemmas
+pub mod OpenLemmas
+pub mod OutcomeLemmas
+pub mod PoolLemmas
+pub mod SourceLemmas
