@@ -1,7 +1,9 @@
 -- lemmas
+pub mod CopyLemmas
 pub mod EndLemmas
 pub mod NeedLemmas
 pub mod OpenLemmas
 pub mod OutcomeLemmas
 pub mod PoolLemmas
 pub mod SourceLemmas
+pub mod StepLemmas

@@ -1,20 +1,17 @@
 -- What the answer of a step shows of the outcome of its run.
 use Rattle.std.proofs.Common.{◌≡◌, ◌≢◌, ℕ, ◌+◌, ◌-◌, ◌<◌, ◌≤◌, List, length, take, drop, max, min, inl, inr, refl, sym, subst, ap, ◌∙◌, arith, length-drop, length-take}
 use Rattle.std.proofs.lemmas.Bool.{cases_eq, cases_lt}
-use Rattle.std.proofs.lemmas.Option.{get_or_from_slice_get}
 use Rattle.std.specs.Prelude.{IfSome, None, Option, Some}
 use Rattle.base_fields.specs.declared.spans.Span.{Span}
 use Rattle.span_cover.proofs.Spans.{has_in, in_has}
 use Rattle.bench.specs.declared.Dev.TheVariants.{Journal, Target}
 use Rattle.bench.specs.Disk.{Disk}
 use Rattle.block_map.specs.Maps.{digest_in, part_of}
-use Rattle.block_map.specs.Units.{first_of, units_of}
-use Rattle.block_map.specs.declared.maps.BlockMap.{BlockMap}
+use Rattle.block_map.specs.Units.{first_of}
 use Rattle.block_map.specs.declared.maps.Range.{Range}
 use Rattle.block_map.proofs.Index.{first_rises, one_range}
 use Rattle.block_map.proofs.Numbering.{unit_is, units_apart}
 use Rattle.journal_format.specs.Journals.{IsMarked}
-use Rattle.journal_format.specs.declared.jobs.JobId.{JobId}
 use Rattle.copy_laws.proofs.UnitBytes.{in_range_below, rows_length, some_unit}
 use Rattle.copy_states.specs.Along.{IsPositionOn}
 use Rattle.copy_states.specs.Jobs.{IsChecked, IsInRange, IsRangeAt, IsRecorded, IsUnitAt, SameIn}
@@ -27,6 +24,7 @@ use Rattle.copier_moves.proofs.EndLemmas.{range_there}
 use Rattle.copier_moves.proofs.MarkLemmas.{position_on, unit_is as mark_is}
 use Rattle.copier_moves.specs.Fitting.{IsFitting}
 use Rattle.copier_moves.specs.Moves.{IsAlong}
+use Rattle.copier.proofs.SourceLemmas.{one_span}
 use Rattle.copier.specs.Ends.{AreRight}
 
 -- what reads as a part of an image that has it all is all there
@@ -36,10 +34,6 @@ all_there u from image inside filled same =
     let other : length (part_of u from) ≡ min u.len (length from - u.at) = length-take u.len (drop u.at from) ∙ ap (λ (n : ℕ). min u.len n) (length-drop u.at from) in
     let size : length (part_of u image) ≡ length (part_of u from) = ap (λ (l : List ℕ). length l) same in
     omega (arith, one, other, size, inside, filled)
-
--- a number has one unit
-one_span : (id : JobId) (m : BlockMap) (k : ℕ) (u v : Span) → IsUnitAt id m k u → IsUnitAt id m k v → u ≡ v
-one_span id m k u v is other = sym (get_or_from_slice_get (units_of m id.unit) k u u is) ∙ get_or_from_slice_get (units_of m id.unit) k v u other
 
 module _ (job : CopyJob) (c : Course) (is : IsCopyJob job) (course : IsCourse job c) (a : Disk) (fits : IsFitting job c a) (s : List ℕ) (start : Pair) (along : IsAlong job (Some s) start c a) where
   on_journal : IsPositionOn job.id job.map (a.reads Journal) c.window (position_of c)

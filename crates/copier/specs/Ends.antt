@@ -11,7 +11,7 @@ use Rattle.copier.specs.Runs.{IsTold}
 use Rattle.copier.specs.declared.faults.CopyFault.{CopyFault}
 use Rattle.copier.specs.declared.faults.CopyFault.TheVariants.{TargetTooSmall, JournalHeld, NoJournal, JournalForeign, SourceShort, Missing, FileFault, DeviceFault, RangeDiffers, NoMemory}
 use Rattle.copier.specs.declared.steps.Step.{Step}
-use Rattle.copier.specs.declared.steps.Step.TheVariants.{Unit, Kept, Range, Done}
+use Rattle.copier.specs.declared.steps.Step.TheVariants as did
 
 -- every checked range that has a digest has it, as the devices read
 abbrev pub AreRight : CopyJob → Disk → Type 0
@@ -19,10 +19,10 @@ AreRight job disk = CheckedAreRight job.id job.map (disk.reads Target) (disk.rea
 
 -- the outcome of the run that began on this start, where the answer is its last: a call that failed tells nothing of it
 abbrev pub IsOutcome : CopyJob → List ℕ → Pair → Result Step CopyFault → Type 0
-IsOutcome job s start (Ok (Unit k)) = Unit {0}
-IsOutcome job s start (Ok (Kept k)) = Unit {0}
-IsOutcome job s start (Ok (Range r)) = Unit {0}
-IsOutcome job s start (Ok Done) = EndsDone job.id job.map s start
+IsOutcome job s start (Ok (did.Unit k)) = Unit {0}
+IsOutcome job s start (Ok (did.Kept k)) = Unit {0}
+IsOutcome job s start (Ok (did.Range r)) = Unit {0}
+IsOutcome job s start (Ok did.Done) = EndsDone job.id job.map s start
 IsOutcome job s start (Err (TargetTooSmall has needs)) = ⊥
 IsOutcome job s start (Err (JournalHeld kept finished)) = ⊥
 IsOutcome job s start (Err NoJournal) = ⊥

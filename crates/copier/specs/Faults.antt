@@ -1,11 +1,9 @@
 -- Why a copier refuses. Of bytes something is said where they are told; a count is that of a device, or of the files.
-use Rattle.std.specs.Prelude.{◌≡◌, ℕ, ◌<◌, ◌≤◌, List, length, Result, Ok, Err, IsOk}
+use Rattle.std.specs.Prelude.{◌≡◌, ℕ, ◌<◌, ◌≤◌, List, length}
 use Rattle.bench.specs.declared.Dev.TheVariants.{Journal}
 use Rattle.bench.specs.Disk.{Disk}
 use Rattle.bench.specs.Meter.{Meter}
 use Rattle.outside.specs.Counts.{Counts, Rose}
-use Rattle.outside.specs.declared.reading.FillFault.{FillFault}
-use Rattle.outside.specs.declared.reading.FillFault.TheVariants as fill
 use Rattle.journal_format.specs.Journals.{IsHeld}
 use Rattle.copy_journal.specs.Faults.{HasFailed, IsForeign, IsHeldBy}
 use Rattle.copy_opening.specs.declared.faults.OpenFault.{OpenFault}
@@ -29,11 +27,6 @@ of_opening opening.NoJournal = NoJournal
 of_opening (opening.JournalForeign kept given len) = JournalForeign kept given len
 of_opening (opening.DeviceFault dev) = DeviceFault dev
 of_opening opening.NoMemory = NoMemory
-
-abbrev pub of_reading : FillFault → CopyFault
-of_reading fill.Missing = Missing
-of_reading (fill.Short at) = SourceShort at
-of_reading fill.Failed = FileFault
 
 abbrev pub of_ending : EndFault → CopyFault
 of_ending (ending.DeviceFault dev) = DeviceFault dev
@@ -69,6 +62,19 @@ IsUnwritten FileFault = ⊥
 IsUnwritten (DeviceFault dev) = ⊥
 IsUnwritten (RangeDiffers range want got) = ⊥
 IsUnwritten NoMemory = Unit {0}
+
+-- ---- why a unit isn't read: the source isn't there, or ends within the unit, or a call failed
+abbrev pub IsReadFault : Counts → Counts → CopyFault → Type 0
+IsReadFault before after (TargetTooSmall has needs) = ⊥
+IsReadFault before after (JournalHeld kept finished) = ⊥
+IsReadFault before after NoJournal = ⊥
+IsReadFault before after (JournalForeign kept given len) = ⊥
+IsReadFault before after (SourceShort at) = Rose before.ends after.ends
+IsReadFault before after Missing = Rose before.absences after.absences
+IsReadFault before after FileFault = Rose before.faults after.faults
+IsReadFault before after (DeviceFault dev) = ⊥
+IsReadFault before after (RangeDiffers range want got) = ⊥
+IsReadFault before after NoMemory = ⊥
 
 -- ---- why a unit isn't put: a call on that device has failed
 abbrev pub IsPutFault : Meter → Meter → CopyFault → Type 0

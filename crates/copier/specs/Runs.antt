@@ -14,7 +14,7 @@ use Rattle.copier.specs.Copiers.{CameAlong, Progress, WindowReads}
 use Rattle.copier.specs.Faults.{IsKeepFault, IsStepFault, NoneIsLeft}
 use Rattle.copier.specs.declared.faults.CopyFault.{CopyFault}
 use Rattle.copier.specs.declared.steps.Step.{Step}
-use Rattle.copier.specs.declared.steps.Step.TheVariants.{Unit, Kept, Range, Done}
+use Rattle.copier.specs.declared.steps.Step.TheVariants as did
 
 -- ---- a unit is put, with these bytes
 -- Since is kept where the window's units read as the source's bytes and the given ones are the source's, where these are
@@ -71,10 +71,10 @@ pub record IsDone (job : CopyJob) (disk : Disk) : Type 0 where
   pub journal : IsSettled disk Journal
 
 abbrev pub ShowsDone : CopyJob → Disk → Result Step CopyFault → Type 0
-ShowsDone job disk (Ok (Unit k)) = Unit {0}
-ShowsDone job disk (Ok (Kept k)) = Unit {0}
-ShowsDone job disk (Ok (Range r)) = Unit {0}
-ShowsDone job disk (Ok Done) = IsDone job disk
+ShowsDone job disk (Ok (did.Unit k)) = Unit {0}
+ShowsDone job disk (Ok (did.Kept k)) = Unit {0}
+ShowsDone job disk (Ok (did.Range r)) = Unit {0}
+ShowsDone job disk (Ok did.Done) = IsDone job disk
 ShowsDone job disk (Err fault) = Unit {0}
 
 -- ---- the causes of a refusal that isn't a kept one

@@ -17,15 +17,15 @@ use Rattle.copier.specs.Copiers.{Progress, next_of}
 use Rattle.copier.specs.declared.faults.CopyFault.{CopyFault}
 use Rattle.copier.specs.declared.faults.CopyFault.TheVariants.{TargetTooSmall, JournalHeld, NoJournal, JournalForeign, SourceShort, Missing, FileFault, DeviceFault, RangeDiffers, NoMemory}
 use Rattle.copier.specs.declared.steps.Step.{Step}
-use Rattle.copier.specs.declared.steps.Step.TheVariants.{Unit, Kept, Range, Done}
+use Rattle.copier.specs.declared.steps.Step.TheVariants as did
 
 -- ---- what is answered
 -- what was to be done where this step is answered
 abbrev pub needed : Step → Need
-needed (Unit k) = need.Unit k
-needed (Kept k) = need.Kept k
-needed (Range r) = need.Range r
-needed Done = need.Done
+needed (did.Unit k) = need.Unit k
+needed (did.Kept k) = need.Kept k
+needed (did.Range r) = need.Range r
+needed did.Done = need.Done
 
 -- what is Ok is what was to be done
 abbrev pub IsForNext : CopyJob → Progress → Result Step CopyFault → Type 0
@@ -34,16 +34,16 @@ IsForNext job was (Err fault) = Unit {0}
 
 -- the step of unit k, or a refusal
 abbrev pub IsForUnit : ℕ → Result Step CopyFault → Type 0
-IsForUnit k (Ok step) = step ≡ Unit k
+IsForUnit k (Ok step) = step ≡ did.Unit k
 IsForUnit k (Err fault) = Unit {0}
 
 -- ---- where it leaves the copier
 -- from one course to the next by a step
 abbrev pub Passes : CopyJob → Course → Course → Step → Type 0
-Passes job c d (Unit k) = IsPut job c d
-Passes job c d (Kept k) = IsKept c d
-Passes job c d (Range r) = Checks c d
-Passes job c d Done = d ≡ c
+Passes job c d (did.Unit k) = IsPut job c d
+Passes job c d (did.Kept k) = IsKept c d
+Passes job c d (did.Range r) = Checks c d
+Passes job c d did.Done = d ≡ c
 
 -- Ok takes the copier to its next course; a refusal is kept, and a kept one is answered again
 abbrev pub GoesTo : CopyJob → Progress → Progress → Result Step CopyFault → Type 0
@@ -60,10 +60,10 @@ left_of job (Err fault) = 0
 
 -- each step but the last leaves fewer of them
 abbrev pub LeavesFewer : CopyJob → Progress → Progress → Result Step CopyFault → Type 0
-LeavesFewer job was now (Ok (Unit k)) = left_of job now < left_of job was
-LeavesFewer job was now (Ok (Kept k)) = left_of job now < left_of job was
-LeavesFewer job was now (Ok (Range r)) = left_of job now < left_of job was
-LeavesFewer job was now (Ok Done) = now ≡ was
+LeavesFewer job was now (Ok (did.Unit k)) = left_of job now < left_of job was
+LeavesFewer job was now (Ok (did.Kept k)) = left_of job now < left_of job was
+LeavesFewer job was now (Ok (did.Range r)) = left_of job now < left_of job was
+LeavesFewer job was now (Ok did.Done) = now ≡ was
 LeavesFewer job was now (Err fault) = Unit {0}
 
 -- ---- what it calls and costs
@@ -93,6 +93,20 @@ CostsFor job need.Done answer old new = Costs 0 old new
 CostsFor job need.Failed answer old new = Costs 0 old new
 
 -- ---- what it tells of the source
+-- the wanted bytes were read, or they are refused as the files refuse them, or a call failed
+abbrev pub ReadsInto : Result (List ℕ) FillFault → List ℕ → Result Unit CopyFault → Type 0
+ReadsInto wanted got (Ok read) = wanted ≡ Ok got
+ReadsInto wanted got (Err (TargetTooSmall has needs)) = ⊥
+ReadsInto wanted got (Err (JournalHeld kept finished)) = ⊥
+ReadsInto wanted got (Err NoJournal) = ⊥
+ReadsInto wanted got (Err (JournalForeign kept given len)) = ⊥
+ReadsInto wanted got (Err (SourceShort at)) = wanted ≡ Err (fill.Short at)
+ReadsInto wanted got (Err Missing) = wanted ≡ Err fill.Missing
+ReadsInto wanted got (Err FileFault) = Unit {0}
+ReadsInto wanted got (Err (DeviceFault dev)) = ⊥
+ReadsInto wanted got (Err (RangeDiffers range want other)) = ⊥
+ReadsInto wanted got (Err NoMemory) = ⊥
+
 -- the bytes of a unit are there, or they are refused as the files refuse them, or a call failed
 abbrev pub TellsSource : Result (List ℕ) FillFault → Result Step CopyFault → Type 0
 TellsSource wanted (Ok step) = IsOk wanted

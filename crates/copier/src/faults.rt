@@ -3,7 +3,6 @@ use bench::Dev;
 use copier_moves::{DeviceFault, EndFault};
 use copy_opening::OpenFault;
 use journal_format::JobId;
-use outside::FillFault;
 
 /// Why a copier isn't opened, or refuses a step.
 #[derive(Clone, Copy, Debug, PartialEq, Eq)]
@@ -85,22 +84,6 @@ impl From<OpenFault> for CopyFault {
             },
             OpenFault::DeviceFault { dev } => CopyFault::DeviceFault { dev },
             OpenFault::NoMemory => CopyFault::NoMemory,
-        }
-    }
-}
-
-/// So is that of the files.
-impl From<FillFault> for CopyFault {
-    ghost use Rattle.std.specs.Prelude.{◌≡◌};
-    ghost use Rattle.copier.specs.Faults.{of_reading};
-
-    ghost from_gives = { λ fault given. given ≡ of_reading fault };
-
-    fn from(fault: FillFault) -> CopyFault {
-        match fault {
-            FillFault::Missing => CopyFault::Missing,
-            FillFault::Short { at } => CopyFault::SourceShort { at },
-            FillFault::Failed => CopyFault::FileFault,
         }
     }
 }

@@ -7,6 +7,7 @@ mod faults;
 mod keeping;
 mod opening;
 mod putting;
+mod reading;
 mod stepping;
 mod steps;
 

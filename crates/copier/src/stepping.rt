@@ -10,10 +10,11 @@ ghost use Rattle.copier.specs.Steps.{CostsFor, GoesTo, IsForNext, IsIdleNeed, Is
 
 use crate::keeping::{keep_next, next_in};
 use crate::putting::{put_next, refuse};
+use crate::reading::read_unit;
 use crate::{CopyFault, CopyJob, Need, Step};
 use bench::Bench;
 use copier_course::Course;
-use outside::{Files, fill};
+use outside::Files;
 
 /// Does what is next. The buffer has room for a unit, and holds any bytes then.
 pub(crate) fn step_next<F: Files, B: Bench>(
@@ -91,8 +92,8 @@ fn copy_next<F: Files, B: Bench>(
 {
     let span = job.units.span(k);
     let part = &mut buf[..span.len as usize];
-    match fill(files, job.source.text(), span.at, part) {
+    match read_unit(files, job.source.text(), span.at, part) {
         Ok(()) => put_next(bench, job, progress, k, part),
-        Err(fault) => Err(refuse(progress, CopyFault::from(fault))),
+        Err(fault) => Err(refuse(progress, fault)),
     }
 }

@@ -1,0 +1,69 @@
+-- What a call of a copier keeps, by the one move that it makes.
+use Rattle.std.proofs.Common.{◌≡◌, ℕ, ◌+◌, ◌-◌, ◌<◌, ◌≤◌, List, [], Contains, refl, sym, subst, ap, ◌∙◌, arith}
+use Rattle.std.specs.Prelude.{Err, IfSome, None, Ok, Option, Some}
+use Rattle.bench.specs.Disk.{Disk}
+use Rattle.block_map.specs.declared.maps.BlockMap.{BlockMap}
+use Rattle.block_map.specs.Units.{first_of}
+use Rattle.block_map.proofs.Index.{first_rises}
+use Rattle.journal_format.specs.declared.jobs.JobId.{JobId}
+use Rattle.copy_states.specs.Starts.{Pair}
+use Rattle.copy_laws.specs.Marks.{AreCopied}
+use Rattle.copier_course.specs.Courses.{Checks, IsAtFirst, IsBehind, IsCourse, need_of, rows_in}
+use Rattle.copier_course.specs.declared.courses.Course.{Course}
+use Rattle.copier_course.specs.declared.jobs.CopyJob.{CopyJob}
+use Rattle.copier_course.specs.declared.jobs.Need.{Need}
+use Rattle.copier_course.specs.declared.jobs.Need.TheVariants as need
+use Rattle.copier_moves.proofs.EndLemmas.{look_is_near}
+use Rattle.copier_moves.proofs.KeepLemmas.{looked_none}
+use Rattle.copier_moves.specs.Moves.{AreSources, PuttingIsAlong, PuttingKeepsSince}
+use Rattle.copier.proofs.EndLemmas.{fits_done}
+use Rattle.copier.proofs.NeedLemmas.{done_next, range_fewer, range_next, unit_next}
+use Rattle.copier.specs.Copiers.{CameAlong, Fits, IsSound, Progress, WindowReads, next_of}
+use Rattle.copier.specs.Runs.{IsDone, KeepsWindow, PutGoesAlong, PutKeepsSince, StaysNear}
+
+-- ---- of a copier that hasn't refused
+pub course_of : (job : CopyJob) (was : Progress) (c : Course) → was ≡ Ok c → IsSound job was → IsCourse job c
+course_of job was c is sound = (subst (λ (p : Progress). IsSound job p) is sound).course
+
+need_at : (job : CopyJob) (was : Progress) (c : Course) (n : Need) → was ≡ Ok c → next_of job was ≡ n → need_of job c ≡ n
+need_at job was c n is next = subst (λ (p : Progress). next_of job p ≡ n) is next
+
+-- ---- a unit is put
+pub number_next : (job : CopyJob) (was : Progress) (c : Course) (k : ℕ) → was ≡ Ok c → IsSound job was → next_of job was ≡ need.Unit k → c.unit ≡ k
+number_next job was c k is sound next = (unit_next job c (course_of job was c is sound) k (need_at job was c (need.Unit k) is next)).number
+
+pub put_since : (job : CopyJob) (was : Progress) (c : Course) (k : ℕ) (bytes : List ℕ) (a b : Disk) → was ≡ Ok c → c.unit ≡ k →
+    PuttingKeepsSince job c bytes a b → PutKeepsSince job was k bytes a b
+put_since job was c k bytes a b is number keeps source before reads sources =
+    keeps source before (subst (λ (p : Progress). WindowReads job p source a) is reads) (subst (λ (n : ℕ). AreSources job source n bytes) (sym number) sources)
+
+pub put_along : (job : CopyJob) (was : Progress) (c d : Course) (k : ℕ) (bytes : List ℕ) (a b : Disk) → was ≡ Ok c → c.unit ≡ k →
+    PuttingIsAlong job bytes c d a b → PutGoesAlong job was (Ok d) k bytes a b
+put_along job was c d k bytes a b is number goes source start along sources =
+    goes source start (subst (λ (p : Progress). CameAlong job p source start a) is along) (subst (λ (n : ℕ). AreSources job source n bytes) (sym number) sources)
+
+-- ---- a range is ended
+none_reads : (id : JobId) (m : BlockMap) (source : Option (List ℕ)) (ks t : List ℕ) → ks ≡ [] → AreCopied id m source ks t
+none_reads id m None ks t none = tt
+none_reads id m (Some s) ks t none = λ k u among at.
+    let never : Contains [] k = subst (λ (l : List ℕ). Contains l k) none among in
+    absurd (omega (arith, never.1))
+
+pub first_keeps_window : (job : CopyJob) (was : Progress) (d : Course) (a b : Disk) → IsAtFirst job d → KeepsWindow job was (Ok d) a b
+first_keeps_window job was d a b first source reads = none_reads job.id job.map source d.pending _ first.pending
+
+pub ended_fewer : (job : CopyJob) (was : Progress) (c d : Course) (r : ℕ) → was ≡ Ok c → IsSound job was → next_of job was ≡ need.Range r →
+    IsCourse job d → Checks c d → IsAtFirst job d → (job.id.units - d.unit) + (job.id.ranges - d.range) < (job.id.units - c.unit) + (job.id.ranges - c.range)
+ended_fewer job was c d r is sound next course checks first =
+    let behind : IsBehind job c = (range_next job c (course_of job was c is sound) r (need_at job was c (need.Range r) is next)).behind in
+    let rise : first_of (rows_in job) (c.range + 1) ≤ first_of (rows_in job) d.range = first_rises (rows_in job) (c.range + 1) d.range (omega (arith, checks.later)) in
+    range_fewer job c (course_of job was c is sound) d behind course checks (omega (arith, rise, behind.end, first.unit))
+
+-- ---- nothing is called
+pub rests_near : (job : CopyJob) (was : Progress) (a : Disk) → IsSound job was → Fits job was a → StaysNear job was a a
+rests_near job (Ok c) a sound fits = look_is_near job c sound.of_job fits (looked_none a)
+rests_near job (Err fault) a sound fits = tt
+
+pub rests_done : (job : CopyJob) (was : Progress) (a : Disk) → IsSound job was → next_of job was ≡ need.Done → Fits job was a → IsDone job a
+rests_done job (Ok c) a sound next fits = fits_done job c a sound.of_job sound.course (done_next job c sound.course next) fits
+rests_done job (Err fault) a sound next fits = let never : ⊥ = cc in absurd never
