@@ -2,6 +2,7 @@
 use Rattle.std.proofs.Common.{◌≡◌, ℕ, ◌+◌, ◌*◌, ◌<◌, ◌≤◌, List, length, refl, subst, sym, ◌∙◌, arith}
 use Rattle.std.specs.Prelude.{Err, IfErr, IsOk, None, Ok, Option, Result, Some}
 use Rattle.base_fields.specs.declared.spans.Span.{Span}
+use Rattle.bench.specs.declared.Dev.{Dev}
 use Rattle.bench.specs.Disk.{Disk}
 use Rattle.bench.specs.Meter.{Costs, Meter}
 use Rattle.outside.specs.Counts.{Counts}
@@ -21,7 +22,7 @@ use Rattle.copier.proofs.NeedLemmas.{unit_next}
 use Rattle.copier.proofs.SourceLemmas.{one_span, sources_read}
 use Rattle.copier.specs.Copiers.{CameAlong, IsSound, Progress, WindowReads, next_of}
 use Rattle.copier.specs.Faults.{IsPutFault, IsReadFault}
-use Rattle.copier.specs.Runs.{ClearsTheRange, HasStepCause, IsTold, PutGoesAlong, PutKeepsSince, PutKeepsWindow, ShowsDone, StepGoesAlong, StepKeepsSince, StepKeepsWindow}
+use Rattle.copier.specs.Runs.{ClearsTheRange, HasKeepCause, HasStepCause, IsTold, PutGoesAlong, PutKeepsSince, PutKeepsWindow, ShowsDone, StepGoesAlong, StepKeepsSince, StepKeepsWindow}
 use Rattle.copier.specs.Steps.{CostsFor, GoesTo, IsForNext, IsForUnit, ReadsInto, ReadsSource, TellsSource}
 use Rattle.copier.specs.declared.faults.CopyFault.{CopyFault}
 use Rattle.copier.specs.declared.faults.CopyFault.TheVariants.{TargetTooSmall, JournalHeld, NoJournal, JournalForeign, SourceShort, Missing, FileFault, DeviceFault, RangeDiffers, NoMemory}
@@ -64,7 +65,7 @@ copied_done job disk k (Ok did.Done) is = let never : ⊥ = cc in absurd never
 copied_done job disk k (Err fault) is = tt
 
 -- a put is refused by a device alone
-put_refusal : (old new : Meter) (P : CopyFault → Type 0) (fault : CopyFault) → ((dev : _) → P (DeviceFault dev)) → IsPutFault old new fault → P fault
+put_refusal : (old new : Meter) (P : CopyFault → Type 0) (fault : CopyFault) → ((dev : Dev) → P (DeviceFault dev)) → IsPutFault old new fault → P fault
 put_refusal old new P (TargetTooSmall has needs) each cause = absurd cause
 put_refusal old new P (JournalHeld kept finished) each cause = absurd cause
 put_refusal old new P NoJournal each cause = absurd cause
@@ -179,6 +180,31 @@ refused_tells wanted got (DeviceFault dev) read = absurd read
 refused_tells wanted got (RangeDiffers range want other) read = read
 refused_tells wanted got NoMemory read = read
 
-pub refused_goes : (job : CopyJob) (was : Progress) (k : ℕ) (fault : CopyFault) → next_of job was ≡ need.Unit k → GoesTo job was (Err fault) (Err fault)
-refused_goes job (Ok c) k fault next = refl
-refused_goes job (Err kept) k fault next = let never : ⊥ = cc in absurd never
+its_refusal : (job : CopyJob) (was : Progress) (k : ℕ) (fault : CopyFault) → next_of job was ≡ need.Unit k → GoesTo job was (Err fault) (Err fault)
+its_refusal job (Ok c) k fault next = refl
+its_refusal job (Err kept) k fault next = let never : ⊥ = cc in absurd never
+
+pub refused_goes : (job : CopyJob) (was now : Progress) (k : ℕ) (fault given : CopyFault) → next_of job was ≡ need.Unit k → now ≡ Err fault → given ≡ fault → GoesTo job was now (Err given)
+refused_goes job was now k fault given next kept same =
+    subst (λ (p : Progress). GoesTo job was p (Err given)) (sym kept) (subst (λ (x : CopyFault). GoesTo job was (Err fault) (Err x)) (sym same) (its_refusal job was k fault next))
+
+-- ---- a step that reads nothing, by the clauses of `keep_next`
+pub kept_cause : (told : Type 0) (job : CopyJob) (was : Progress) (disk : Disk) (before after : Counts) (old new : Meter) (answer : Result Step CopyFault) → HasKeepCause told job was disk old new answer →
+    HasStepCause told job was disk before after old new answer
+kept_cause told job (Ok c) disk before after old new (Ok step) cause = tt
+kept_cause told job (Err kept) disk before after old new (Ok step) cause = tt
+kept_cause told job (Err kept) disk before after old new (Err fault) cause = tt
+kept_cause told job (Ok c) disk before after old new (Err fault) cause = keep_cause told job c disk before after old new fault cause
+  where
+    keep_cause : (told : Type 0) (job : CopyJob) (c : Course) (disk : Disk) (before after : Counts) (old new : Meter) (fault : CopyFault) → HasKeepCause told job (Ok c) disk old new (Err fault) →
+        HasStepCause told job (Ok c) disk before after old new (Err fault)
+    keep_cause told job c disk before after old new (TargetTooSmall has needs) cause = cause
+    keep_cause told job c disk before after old new (JournalHeld kept finished) cause = cause
+    keep_cause told job c disk before after old new NoJournal cause = cause
+    keep_cause told job c disk before after old new (JournalForeign kept given len) cause = cause
+    keep_cause told job c disk before after old new (SourceShort at) cause = absurd cause
+    keep_cause told job c disk before after old new Missing cause = absurd cause
+    keep_cause told job c disk before after old new FileFault cause = absurd cause
+    keep_cause told job c disk before after old new (DeviceFault dev) cause = cause
+    keep_cause told job c disk before after old new (RangeDiffers range want got) cause = cause
+    keep_cause told job c disk before after old new NoMemory cause = cause

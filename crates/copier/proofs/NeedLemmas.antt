@@ -1,5 +1,5 @@
 -- Where a copier stands, by what it is to do next.
-use Rattle.std.proofs.Common.{◌≡◌, ℕ, ◌+◌, ◌-◌, ◌<◌, ◌≤◌, Bool, true, false, nat_eq, List, length, sym, ap, ◌∙◌, arith, if◌then◌else◌}
+use Rattle.std.proofs.Common.{◌≡◌, ℕ, ◌+◌, ◌-◌, ◌<◌, ◌≤◌, Bool, true, false, nat_eq, List, length, refl, sym, ap, ◌∙◌, arith, if◌then◌else◌}
 use Rattle.std.proofs.lemmas.Bool.Decides.{nat_tests}
 use Rattle.std.specs.Prelude.{slice_index}
 use Rattle.journal_format.specs.Journals.{IsMarked}
@@ -16,28 +16,28 @@ abbrev chosen : Bool → Bool → Bool → ℕ → ℕ → Need
 chosen a b m r k = if a then need.Done else if b then need.Range r else if m then need.Kept k else need.Unit k
 
 unit_chosen : (a b m : Bool) (r k j : ℕ) → chosen a b m r k ≡ need.Unit j → (a ≡ false) × (b ≡ false) × (m ≡ false) × (k ≡ j)
-unit_chosen true b m r k j is = let no : ⊥ = cc in absurd no
-unit_chosen false true m r k j is = let no : ⊥ = cc in absurd no
-unit_chosen false false true r k j is = let no : ⊥ = cc in absurd no
+unit_chosen true b m r k j is = let never : ⊥ = cc in absurd never
+unit_chosen false true m r k j is = let never : ⊥ = cc in absurd never
+unit_chosen false false true r k j is = let never : ⊥ = cc in absurd never
 unit_chosen false false false r k j is = let same : k ≡ j = cc in (refl, refl, refl, same)
 
 kept_chosen : (a b m : Bool) (r k j : ℕ) → chosen a b m r k ≡ need.Kept j → (a ≡ false) × (b ≡ false) × (m ≡ true) × (k ≡ j)
-kept_chosen true b m r k j is = let no : ⊥ = cc in absurd no
-kept_chosen false true m r k j is = let no : ⊥ = cc in absurd no
+kept_chosen true b m r k j is = let never : ⊥ = cc in absurd never
+kept_chosen false true m r k j is = let never : ⊥ = cc in absurd never
 kept_chosen false false true r k j is = let same : k ≡ j = cc in (refl, refl, refl, same)
-kept_chosen false false false r k j is = let no : ⊥ = cc in absurd no
+kept_chosen false false false r k j is = let never : ⊥ = cc in absurd never
 
 range_chosen : (a b m : Bool) (r k j : ℕ) → chosen a b m r k ≡ need.Range j → (a ≡ false) × (b ≡ true) × (r ≡ j)
-range_chosen true b m r k j is = let no : ⊥ = cc in absurd no
+range_chosen true b m r k j is = let never : ⊥ = cc in absurd never
 range_chosen false true m r k j is = let same : r ≡ j = cc in (refl, refl, same)
-range_chosen false false true r k j is = let no : ⊥ = cc in absurd no
-range_chosen false false false r k j is = let no : ⊥ = cc in absurd no
+range_chosen false false true r k j is = let never : ⊥ = cc in absurd never
+range_chosen false false false r k j is = let never : ⊥ = cc in absurd never
 
 done_chosen : (a b m : Bool) (r k : ℕ) → chosen a b m r k ≡ need.Done → a ≡ true
 done_chosen true b m r k is = refl
-done_chosen false true m r k is = let no : ⊥ = cc in absurd no
-done_chosen false false true r k is = let no : ⊥ = cc in absurd no
-done_chosen false false false r k is = let no : ⊥ = cc in absurd no
+done_chosen false true m r k is = let never : ⊥ = cc in absurd never
+done_chosen false false true r k is = let never : ⊥ = cc in absurd never
+done_chosen false false false r k is = let never : ⊥ = cc in absurd never
 
 failed_chosen : (a b m : Bool) (r k : ℕ) → chosen a b m r k ≡ need.Failed → ⊥
 failed_chosen true b m r k is = cc

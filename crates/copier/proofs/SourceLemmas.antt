@@ -23,16 +23,16 @@ one_span id m k u v is other = sym (get_or_from_slice_get (units_of m id.unit) k
 -- a run that was read is there
 run_read : (b : Bool) (part got : List ℕ) (off : ℕ) → (if b then Ok part else Err (Short off)) ≡ Ok got → (b ≡ true) × (got ≡ part)
 run_read true part got off is = let same : got ≡ part = cc in (refl, same)
-run_read false part got off is = let no : ⊥ = cc in absurd no
+run_read false part got off is = let never : ⊥ = cc in absurd never
 
 -- and one that isn't there lacks a byte
 run_lacks : (b : Bool) (part : List ℕ) (off at : ℕ) → (if b then Ok part else Err (Short off)) ≡ Err (Short at) → (b ≡ false) × (at ≡ off)
-run_lacks true part off at is = let no : ⊥ = cc in absurd no
+run_lacks true part off at is = let never : ⊥ = cc in absurd never
 run_lacks false part off at is = let same : at ≡ off = cc in (refl, same)
 
 asked : (b : Bool) (wanted answer : Result (List ℕ) FillFault) → b ≡ false → (if b then Ok [] else wanted) ≡ answer → wanted ≡ answer
-asked false wanted answer no is = is
-asked true wanted answer no is = let never : ⊥ = cc in absurd never
+asked false wanted answer isnt is = is
+asked true wanted answer isnt is = let never : ⊥ = cc in absurd never
 
 some_asked : (n : ℕ) → 0 < n → nat_eq n 0 ≡ false
 some_asked n some = grind (arith, nat_tests)

@@ -5,22 +5,25 @@ ghost use Rattle.copier.specs.Faults.{IsReadFault};
 ghost use Rattle.copier.specs.Steps.{ReadsInto};
 
 use crate::CopyFault;
+use base_fields::Span;
 use outside::{Files, FillFault, fill};
 
-/// Fills a part of the buffer with the bytes of the source from an offset on.
+/// Reads a span of the source into a part of the buffer, which has its length.
 pub(crate) fn read_unit<F: Files>(
     files: &mut F,
     name: &str,
-    at: u64,
+    span: Span,
     part: &mut [u8],
 ) -> Result<(), CopyFault>
-    requires { at + length part.old < 2 ^ 64 }
+    requires whole { length part.old ≡ span.len }
+    requires bounded { span.at + span.len < 2 ^ 64 }
+    ensures size { length part.new ≡ span.len }
     ensures none_fell { NoneFell (F.counts files.old) (F.counts files.new) }
     ensures same_files { F.file files.new ≡ F.file files.old }
     ensures cause { IfErr result (IsReadFault (F.counts files.old) (F.counts files.new)) }
-    ensures read { F.told → ReadsInto (span_of (F.file files.old name.now) at (length part.old)) part.new result }
+    ensures read { F.told → ReadsInto (span_of (F.file files.old name.now) span.at span.len) part.new result }
 {
-    match fill(files, name, at, part) {
+    match fill(files, name, span.at, part) {
         Ok(()) => Ok(()),
         Err(FillFault::Missing) => Err(CopyFault::Missing),
         Err(FillFault::Short { at }) => Err(CopyFault::SourceShort { at }),

@@ -92,7 +92,7 @@ fn copy_next<F: Files, B: Bench>(
 {
     let span = job.units.span(k);
     let part = &mut buf[..span.len as usize];
-    match read_unit(files, job.source.text(), span.at, part) {
+    match read_unit(files, job.source.text(), span, part) {
         Ok(()) => put_next(bench, job, progress, k, part),
         Err(fault) => Err(refuse(progress, fault)),
     }

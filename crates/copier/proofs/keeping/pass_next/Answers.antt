@@ -1,5 +1,6 @@
 -- A unit is kept, by its move, which writes nothing.
 use Rattle.bench.proofs.DiskLemmas.{looked_keeps}
+use Rattle.copier.proofs.StepLemmas.{near_of}
 use Rattle.copier.proofs.keeping.pass_next.Goals as goal
 
 pub returns-in-Ok-keep_unit-clause-since : goal.returns-in-Ok-keep_unit-clause-since
@@ -7,3 +8,9 @@ returns-in-Ok-keep_unit-clause-since g c told source before = looked_keeps c.kee
 
 pub returns-in-Err-clause-since : goal.returns-in-Err-clause-since
 returns-in-Err-clause-since g c told source before = looked_keeps c.keep_unit.ensures.looked
+
+pub returns-in-Ok-keep_unit-clause-narrow : goal.returns-in-Ok-keep_unit-clause-narrow
+returns-in-Ok-keep_unit-clause-narrow g c told = near_of c.args.job.now c.args.progress.now c.in-Ok.course c.in-Ok.is (c.keep_unit.ensures.narrow told)
+
+pub returns-in-Err-clause-narrow : goal.returns-in-Err-clause-narrow
+returns-in-Err-clause-narrow g c told = near_of c.args.job.now c.args.progress.now c.in-Ok.course c.in-Ok.is (c.keep_unit.ensures.narrow told)
