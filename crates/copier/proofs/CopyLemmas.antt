@@ -23,7 +23,7 @@ use Rattle.copier.proofs.SourceLemmas.{one_span, sources_read}
 use Rattle.copier.specs.Copiers.{CameAlong, IsSound, Progress, WindowReads, next_of}
 use Rattle.copier.specs.Faults.{IsPutFault, IsReadFault}
 use Rattle.copier.specs.Runs.{ClearsTheRange, HasKeepCause, HasStepCause, IsTold, PutGoesAlong, PutKeepsSince, PutKeepsWindow, ShowsDone, StepGoesAlong, StepKeepsSince, StepKeepsWindow}
-use Rattle.copier.specs.Steps.{CostsFor, GoesTo, IsForNext, IsForUnit, ReadsInto, ReadsSource, TellsSource}
+use Rattle.copier.specs.Steps.{CostsFor, GoesTo, IsForNext, IsForUnit, IsUnitNeed, ReadsInto, ReadsSource, TellsSource}
 use Rattle.copier.specs.declared.faults.CopyFault.{CopyFault}
 use Rattle.copier.specs.declared.faults.CopyFault.TheVariants.{TargetTooSmall, JournalHeld, NoJournal, JournalForeign, SourceShort, Missing, FileFault, DeviceFault, RangeDiffers, NoMemory}
 use Rattle.copier.specs.declared.steps.Step.{Step}
@@ -189,6 +189,13 @@ refused_goes job was now k fault given next kept same =
     subst (λ (p : Progress). GoesTo job was p (Err given)) (sym kept) (subst (λ (x : CopyFault). GoesTo job was (Err fault) (Err x)) (sym same) (its_refusal job was k fault next))
 
 -- ---- a step that reads nothing, by the clauses of `keep_next`
+pub no_unit : (n : Need) → ((k : ℕ) → n ≡ need.Unit k → ⊥) → IsUnitNeed n → ⊥
+no_unit (need.Unit k) other is = other k refl
+no_unit (need.Kept k) other is = is
+no_unit (need.Range r) other is = is
+no_unit need.Done other is = is
+no_unit need.Failed other is = is
+
 pub kept_cause : (told : Type 0) (job : CopyJob) (was : Progress) (disk : Disk) (before after : Counts) (old new : Meter) (answer : Result Step CopyFault) → HasKeepCause told job was disk old new answer →
     HasStepCause told job was disk before after old new answer
 kept_cause told job (Ok c) disk before after old new (Ok step) cause = tt

@@ -2,7 +2,7 @@
 use Rattle.std.proofs.Common.{◌∙◌, subst, sym}
 use Rattle.std.proofs.lemmas.Result.{on_ok_weaker}
 use Rattle.copier_course.specs.declared.jobs.Need.{Need}
-use Rattle.copier.proofs.CopyLemmas.{kept_cause}
+use Rattle.copier.proofs.CopyLemmas.{kept_cause, no_unit}
 use Rattle.copier.specs.Steps.{IsIdleNeed, IsUnitNeed}
 use Rattle.copier.proofs.stepping.step_next.Goals as goal
 
@@ -13,7 +13,7 @@ pub returns-in-Unit-clause-unasked : goal.returns-in-Unit-clause-unasked
 returns-in-Unit-clause-unasked g c none = absurd (none (subst (λ (n : Need). IsUnitNeed n) (sym c.in-Unit.is ∙ c.next_in.ensures) tt))
 
 pub keep_next-requires-clause-next : goal.keep_next-requires-clause-next
-keep_next-requires-clause-next g c = ?
+keep_next-requires-clause-next g c unit = no_unit c.next_in.result c.in_default.not-Unit (subst (λ (n : Need). IsUnitNeed n) (sym c.next_in.ensures) unit)
 
 pub returns-in_default-clause-since : goal.returns-in_default-clause-since
 returns-in_default-clause-since g c told source before is reads = c.keep_next.ensures.since told source before
@@ -30,4 +30,4 @@ returns-in_default-clause-cause g c =
     (g.B.Bench.meter c.args.bench.now) (g.B.Bench.meter c.keep_next.new.bench) c.keep_next.result c.keep_next.ensures.cause
 
 pub returns-in_default-clause-source : goal.returns-in_default-clause-source
-returns-in_default-clause-source g c told k u next at = ?
+returns-in_default-clause-source g c told k u next at = absurd (c.in_default.not-Unit k (c.next_in.ensures ∙ next))
