@@ -1,6 +1,6 @@
 -- A unit that is read and put: what its step keeps and tells, by the answer of the put or by the refusal of the read.
-use Rattle.std.proofs.Common.{◌≡◌, ℕ, ◌+◌, ◌*◌, ◌<◌, ◌≤◌, List, length, refl, subst, sym, ◌∙◌, arith}
-use Rattle.std.specs.Prelude.{Err, IfErr, IsOk, None, Ok, Option, Result, Some}
+use Rattle.std.proofs.Common.{◌≡◌, ℕ, ◌+◌, ◌<◌, ◌≤◌, List, length, refl, subst, sym, ◌∙◌, arith}
+use Rattle.std.specs.Prelude.{Err, IfErr, IsOk, Ok, Option, Result}
 use Rattle.base_fields.specs.declared.spans.Span.{Span}
 use Rattle.bench.specs.declared.Dev.{Dev}
 use Rattle.bench.specs.Disk.{Disk}
@@ -11,7 +11,6 @@ use Rattle.outside.specs.Reading.{span_of}
 use Rattle.outside.specs.declared.reading.FillFault.{FillFault}
 use Rattle.block_map.specs.Units.{units_in}
 use Rattle.copy_states.specs.Jobs.{IsUnitAt}
-use Rattle.copy_states.specs.Starts.{Pair}
 use Rattle.copier_course.specs.Courses.{need_of}
 use Rattle.copier_course.specs.declared.courses.Course.{Course}
 use Rattle.copier_course.specs.declared.jobs.CopyJob.{CopyJob}
@@ -20,9 +19,9 @@ use Rattle.copier_course.specs.declared.jobs.Need.TheVariants as need
 use Rattle.copier_moves.proofs.PutLemmas.{inside_below, number_inside}
 use Rattle.copier.proofs.NeedLemmas.{unit_next}
 use Rattle.copier.proofs.SourceLemmas.{one_span, sources_read}
-use Rattle.copier.specs.Copiers.{CameAlong, IsSound, Progress, WindowReads, next_of}
+use Rattle.copier.specs.Copiers.{IsSound, Progress, next_of}
 use Rattle.copier.specs.Faults.{IsPutFault, IsReadFault}
-use Rattle.copier.specs.Runs.{ClearsTheRange, HasKeepCause, HasStepCause, IsTold, PutGoesAlong, PutKeepsSince, PutKeepsWindow, ShowsDone, StepGoesAlong, StepKeepsSince, StepKeepsWindow}
+use Rattle.copier.specs.Runs.{ClearsTheRange, HasKeepCause, HasStepCause, PutGoesAlong, PutKeepsSince, PutKeepsWindow, ShowsDone, StepGoesAlong, StepKeepsSince, StepKeepsWindow}
 use Rattle.copier.specs.Steps.{CostsFor, GoesTo, IsForNext, IsForUnit, IsUnitNeed, ReadsInto, ReadsSource, TellsSource}
 use Rattle.copier.specs.declared.faults.CopyFault.{CopyFault}
 use Rattle.copier.specs.declared.faults.CopyFault.TheVariants.{TargetTooSmall, JournalHeld, NoJournal, JournalForeign, SourceShort, Missing, FileFault, DeviceFault, RangeDiffers, NoMemory}

@@ -1,6 +1,7 @@
 -- lemmas
 pub mod CopyLemmas
 pub mod EndLemmas
+pub mod EndingLemmas
 pub mod NeedLemmas
 pub mod OpenLemmas
 pub mod OutcomeLemmas

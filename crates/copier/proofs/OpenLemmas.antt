@@ -1,12 +1,10 @@
 -- A copier that was opened, by what its opening gave.
-use Rattle.std.proofs.Common.{◌≡◌, ℕ, ◌+◌, ◌<◌, ◌≤◌, List, [], length, take, drop, refl, sym, subst, ap, ◌∙◌, arith, length-drop}
+use Rattle.std.proofs.Common.{◌≡◌, ℕ, ◌+◌, ◌≤◌, List, [], length, drop, sym, subst, ap, ◌∙◌, arith, length-drop}
 use Rattle.std.proofs.lemmas.List.{length-take-le}
-use Rattle.std.specs.Prelude.{Option, Some}
 use Rattle.bench.proofs.DiskLemmas.{torn_at_none}
 use Rattle.bench.specs.declared.Dev.TheVariants.{Journal, Target}
 use Rattle.bench.specs.Disk.{Disk, IsSettled}
-use Rattle.block_map.specs.declared.maps.Range.{Range}
-use Rattle.journal_format.specs.Journals.{IsOpenedFor, IsWindow, window_of}
+use Rattle.journal_format.specs.Journals.{IsOpenedFor, IsWindow}
 use Rattle.sha2.specs.Hashers.{Holds256}
 use Rattle.copy_journal.specs.Events.{AreMarks}
 use Rattle.copy_journal.specs.declared.marks.Marks.{Marks}
@@ -15,14 +13,13 @@ use Rattle.copy_laws.specs.Opening.{IsAtOpening, SameMarks}
 use Rattle.copy_laws.specs.Writes.{UnitsTorn}
 use Rattle.copy_opening.specs.Openings.{Opens, start_of}
 use Rattle.copy_states.specs.Along.{Along, IsPositionOn}
-use Rattle.copy_states.specs.Jobs.{IsRangeAt}
-use Rattle.copier_course.specs.Courses.{HasMarks, IsAtFirst, IsCopyJob, IsCourse, first_in, position_of}
+use Rattle.copier_course.specs.Courses.{HasMarks, IsAtFirst, IsCopyJob, IsCourse, position_of}
 use Rattle.copier_course.specs.declared.courses.Course.{Course}
 use Rattle.copier_course.specs.declared.jobs.CopyJob.{CopyJob}
 use Rattle.copier_moves.proofs.MarkLemmas.{position_on, window_is}
 use Rattle.copier_moves.proofs.UnitLemmas.{before_first}
 use Rattle.copier_moves.specs.Fitting.{IsFitting, KeepsMarks, bytes_before}
-use Rattle.copier.specs.Openings.{StartsAlong}
+use Rattle.copier.specs.Beginnings.{StartsAlong}
 
 -- the marks of a journal that is opened for a job are as many as its units and ranges
 pub units_long : (job : CopyJob) (j : List ℕ) (marks : Marks) → IsOpenedFor job.id j → AreMarks job.id j marks → length marks.units ≡ job.id.units

@@ -1,5 +1,5 @@
 -- What the answer of a step shows of the outcome of its run.
-use Rattle.std.proofs.Common.{◌≡◌, ◌≢◌, ℕ, ◌+◌, ◌-◌, ◌<◌, ◌≤◌, List, length, take, drop, max, min, inl, inr, refl, sym, subst, ap, ◌∙◌, arith, length-drop, length-take}
+use Rattle.std.proofs.Common.{◌≡◌, ◌≢◌, ℕ, ◌+◌, ◌-◌, ◌<◌, ◌≤◌, List, length, drop, max, min, inl, inr, refl, subst, ap, ◌∙◌, arith, length-drop, length-take}
 use Rattle.std.proofs.lemmas.Bool.{cases_eq, cases_lt}
 use Rattle.std.specs.Prelude.{IfSome, None, Option, Some}
 use Rattle.base_fields.specs.declared.spans.Span.{Span}

@@ -1,5 +1,5 @@
 -- What writing into the buffer of a lease leaves of its pool.
-use Rattle.std.proofs.Common.{◌≡◌, ℕ, List, [], length, refl, get_or, set}
+use Rattle.std.proofs.Common.{ℕ, List, [], refl}
 use Rattle.std.proofs.lemmas.List.{get_or-set_other, length-set}
 use Rattle.region_pool.specs.Buffers.{Buffers, with_bytes}
 use Rattle.copier.specs.Pools.{UsesSlot}

@@ -1,12 +1,11 @@
 -- What a call of a copier keeps, by the one move that it makes.
-use Rattle.std.proofs.Common.{◌≡◌, ℕ, ◌+◌, ◌-◌, ◌<◌, ◌≤◌, List, [], Contains, refl, sym, subst, ap, ◌∙◌, arith}
-use Rattle.std.specs.Prelude.{Err, IfSome, None, Ok, Option, Some}
+use Rattle.std.proofs.Common.{◌≡◌, ℕ, ◌+◌, ◌<◌, ◌≤◌, List, [], Contains, sym, subst, ap, arith}
+use Rattle.std.specs.Prelude.{Err, None, Ok, Option, Some}
 use Rattle.bench.specs.Disk.{Disk}
 use Rattle.block_map.specs.declared.maps.BlockMap.{BlockMap}
 use Rattle.block_map.specs.Units.{first_of}
 use Rattle.block_map.proofs.Index.{first_rises}
 use Rattle.journal_format.specs.declared.jobs.JobId.{JobId}
-use Rattle.copy_states.specs.Starts.{Pair}
 use Rattle.copy_laws.specs.Marks.{AreCopied}
 use Rattle.copier_course.specs.Courses.{Checks, IsAtFirst, IsBehind, IsCourse, IsInside, need_of, rows_in}
 use Rattle.copier_course.specs.declared.courses.Course.{Course}

@@ -1,5 +1,5 @@
 -- What contracts see of a copier, what it is to do next, and what it has to do with its two devices.
-use Rattle.std.specs.Prelude.{ℕ, List, [], Option, Some, Result, Ok, Err, IfOk}
+use Rattle.std.specs.Prelude.{ℕ, List, [], Option, Result, Ok, Err, IfOk}
 use Rattle.bench.specs.declared.Dev.TheVariants.{Target}
 use Rattle.bench.specs.Disk.{Disk}
 use Rattle.region_pool.specs.Buffers.{Held}

@@ -1,5 +1,5 @@
 -- How the run of a copier ends, by the answer of its last step: s is the source's bytes.
-use Rattle.std.specs.Prelude.{◌≡◌, List, ℕ, Option, Some, Result, Ok, Err}
+use Rattle.std.specs.Prelude.{List, ℕ, Option, Some, Result, Ok, Err}
 use Rattle.bench.specs.declared.Dev.TheVariants.{Target, Journal}
 use Rattle.bench.specs.Disk.{Disk}
 use Rattle.copy_states.specs.Outcomes.{EndsDiffering, EndsDone, EndsShort}

@@ -9,10 +9,10 @@ pub use Rattle.copier_moves.specs.Moves
 pub use Rattle.outside.specs.Counts
 pub use Rattle.outside.specs.Reading
 pub use Rattle.region_pool.specs.Buffers
+pub mod Beginnings
 pub mod Copiers
 pub mod Ends
 pub mod Faults
-pub mod Openings
 pub mod Pools
 pub mod Runs
 pub mod Steps

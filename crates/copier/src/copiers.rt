@@ -15,8 +15,9 @@ ghost use Rattle.copier_course.specs.Courses.{IsCopyJob};
 ghost use Rattle.copier_course.specs.declared.jobs.Need.{Need};
 ghost use Rattle.copier_moves.specs.Moves.{MovingKeepsSince};
 ghost use Rattle.copier.specs.Copiers.{Fits, IsSound, next_of};
+ghost use Rattle.copier.specs.Ends.{KeepEnds, StepEnds};
 ghost use Rattle.copier.specs.Faults.{IsOpenFault, IsPutFault, IsUnwritten};
-ghost use Rattle.copier.specs.Openings.{HasBegun, OpensAlong, OpensFitting};
+ghost use Rattle.copier.specs.Beginnings.{HasBegun, OpensAlong, OpensFitting};
 ghost use Rattle.copier.specs.Pools.{HasBuffer, OpensPool, UsesSlot};
 ghost use Rattle.copier.specs.Runs.{ClearsTheRange, GoesAlong, HasKeepCause, HasStepCause, KeepsWindow, PutGoesAlong, PutKeepsSince, PutKeepsWindow, ShowsDone, StaysNear, StepGoesAlong, StepKeepsSince, StepKeepsWindow};
 ghost use Rattle.copier.specs.Steps.{CostsFor, GoesTo, IsForNext, IsForUnit, IsIdleNeed, IsUnitNeed, LeavesFewer, ReadsSource};
@@ -125,6 +126,7 @@ impl<'a> Copier<'a> {
         ensures fewer { LeavesFewer self.old.job self.old.progress self.new.progress result }
         ensures done { B.told → ShowsDone self.old.job (B.disk bench.new) result }
         ensures cleared { B.told → ClearsTheRange self.old.job self.old.progress (B.disk bench.new) result }
+        ensures ends { B.told → StepEnds F.told (F.file files.old self.old.job.source) self.old.job self.old.progress (B.disk bench.old) result }
         ensures cause { HasStepCause B.told self.old.job self.old.progress (B.disk bench.old) (F.counts files.old) (F.counts files.new) (B.meter bench.old) (B.meter bench.new) result }
         ensures source { F.told → ReadsSource (F.file files.old) self.old.job self.old.progress result }
         ensures idle { IsIdleNeed (next_of self.old.job self.old.progress) → bench.new ≡ bench.old }
@@ -191,6 +193,7 @@ impl<'a> Copier<'a> {
         ensures fewer { LeavesFewer self.old.job self.old.progress self.new.progress result }
         ensures done { B.told → ShowsDone self.old.job (B.disk bench.new) result }
         ensures cleared { B.told → ClearsTheRange self.old.job self.old.progress (B.disk bench.new) result }
+        ensures ends { B.told → KeepEnds self.old.job self.old.progress (B.disk bench.old) result }
         ensures cause { HasKeepCause B.told self.old.job self.old.progress (B.disk bench.old) (B.meter bench.old) (B.meter bench.new) result }
         ensures idle { IsIdleNeed (next_of self.old.job self.old.progress) → bench.new ≡ bench.old }
         ensures pool { UsesSlot self.old.lease.slot pool.old pool.new }

@@ -5,6 +5,7 @@ ghost use Rattle.copy_stages.specs.Stages.{KeepsOwn};
 ghost use Rattle.copier_moves.specs.Moves.{MovingKeepsSince};
 ghost use Rattle.copier_course.specs.declared.jobs.Need.{Need};
 ghost use Rattle.copier.specs.Copiers.{Fits, IsSound, next_of};
+ghost use Rattle.copier.specs.Ends.{KeepEnds};
 ghost use Rattle.copier.specs.Runs.{ClearsTheRange, GoesAlong, HasKeepCause, KeepsWindow, ShowsDone, StaysNear};
 ghost use Rattle.copier.specs.Steps.{CostsFor, GoesTo, IsForNext, IsIdleNeed, IsUnitNeed, LeavesFewer};
 
@@ -50,6 +51,7 @@ pub(crate) fn keep_next<B: Bench>(
     ensures fewer { LeavesFewer job.now progress.old progress.new result }
     ensures done { B.told → ShowsDone job.now (B.disk bench.new) result }
     ensures cleared { B.told → ClearsTheRange job.now progress.old (B.disk bench.new) result }
+    ensures ends { B.told → KeepEnds job.now progress.old (B.disk bench.old) result }
     ensures cause { HasKeepCause B.told job.now progress.old (B.disk bench.old) (B.meter bench.old) (B.meter bench.new) result }
     ensures idle { IsIdleNeed (next_of job.now progress.old) → bench.new ≡ bench.old }
     ensures bill { CostsFor job.now (next_of job.now progress.old) result (B.meter bench.old) (B.meter bench.new) }
@@ -101,6 +103,7 @@ fn pass_next<B: Bench>(
     ensures fewer { LeavesFewer job.now progress.old progress.new result }
     ensures done { B.told → ShowsDone job.now (B.disk bench.new) result }
     ensures cleared { B.told → ClearsTheRange job.now progress.old (B.disk bench.new) result }
+    ensures ends { B.told → KeepEnds job.now progress.old (B.disk bench.old) result }
     ensures cause { HasKeepCause B.told job.now progress.old (B.disk bench.old) (B.meter bench.old) (B.meter bench.new) result }
     ensures bill { CostsFor job.now (next_of job.now progress.old) result (B.meter bench.old) (B.meter bench.new) }
     ensures same_names { SameNames (B.meter bench.old) (B.meter bench.new) }
@@ -136,6 +139,7 @@ fn end_next<B: Bench>(
     ensures fewer { LeavesFewer job.now progress.old progress.new result }
     ensures done { B.told → ShowsDone job.now (B.disk bench.new) result }
     ensures cleared { B.told → ClearsTheRange job.now progress.old (B.disk bench.new) result }
+    ensures ends { B.told → KeepEnds job.now progress.old (B.disk bench.old) result }
     ensures cause { HasKeepCause B.told job.now progress.old (B.disk bench.old) (B.meter bench.old) (B.meter bench.new) result }
     ensures bill { CostsFor job.now (next_of job.now progress.old) result (B.meter bench.old) (B.meter bench.new) }
     ensures same_names { SameNames (B.meter bench.old) (B.meter bench.new) }

@@ -8,7 +8,7 @@ ghost use Rattle.copy_opening.specs.declared.opening.Mode.{Mode};
 ghost use Rattle.copier_course.specs.Courses.{IsCopyJob, IsCourse};
 ghost use Rattle.copier_moves.specs.Fitting.{IsFitting};
 ghost use Rattle.copier.specs.Faults.{IsOpenFault, IsUnwritten};
-ghost use Rattle.copier.specs.Openings.{Begins, StartsAlong};
+ghost use Rattle.copier.specs.Beginnings.{Begins, StartsAlong};
 
 use crate::{CopyFault, CopyJob};
 use base_fields::{List, NoMemory};

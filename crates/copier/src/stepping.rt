@@ -5,6 +5,7 @@ ghost use Rattle.outside.specs.Counts.{NoneFell};
 ghost use Rattle.copy_stages.specs.Stages.{KeepsOwn};
 ghost use Rattle.copier_course.specs.declared.jobs.Need.{Need};
 ghost use Rattle.copier.specs.Copiers.{Fits, IsSound, next_of};
+ghost use Rattle.copier.specs.Ends.{StepEnds};
 ghost use Rattle.copier.specs.Runs.{ClearsTheRange, HasStepCause, ShowsDone, StaysNear, StepGoesAlong, StepKeepsSince, StepKeepsWindow};
 ghost use Rattle.copier.specs.Steps.{CostsFor, GoesTo, IsForNext, IsIdleNeed, IsUnitNeed, LeavesFewer, ReadsSource};
 
@@ -41,6 +42,7 @@ pub(crate) fn step_next<F: Files, B: Bench>(
     ensures fewer { LeavesFewer job.now progress.old progress.new result }
     ensures done { B.told → ShowsDone job.now (B.disk bench.new) result }
     ensures cleared { B.told → ClearsTheRange job.now progress.old (B.disk bench.new) result }
+    ensures ends { B.told → StepEnds F.told (F.file files.old job.now.source) job.now progress.old (B.disk bench.old) result }
     ensures cause { HasStepCause B.told job.now progress.old (B.disk bench.old) (F.counts files.old) (F.counts files.new) (B.meter bench.old) (B.meter bench.new) result }
     ensures source { F.told → ReadsSource (F.file files.old) job.now progress.old result }
     ensures idle { IsIdleNeed (next_of job.now progress.old) → bench.new ≡ bench.old }
@@ -83,6 +85,7 @@ fn copy_next<F: Files, B: Bench>(
     ensures fewer { LeavesFewer job.now progress.old progress.new result }
     ensures done { B.told → ShowsDone job.now (B.disk bench.new) result }
     ensures cleared { B.told → ClearsTheRange job.now progress.old (B.disk bench.new) result }
+    ensures ends { B.told → StepEnds F.told (F.file files.old job.now.source) job.now progress.old (B.disk bench.old) result }
     ensures cause { HasStepCause B.told job.now progress.old (B.disk bench.old) (F.counts files.old) (F.counts files.new) (B.meter bench.old) (B.meter bench.new) result }
     ensures source { F.told → ReadsSource (F.file files.old) job.now progress.old result }
     ensures none_fell { NoneFell (F.counts files.old) (F.counts files.new) }

@@ -1,5 +1,6 @@
 -- A range is ended, by its move.
 use Rattle.std.proofs.Common.{◌∙◌}
+use Rattle.copier.proofs.EndingLemmas.{ended_ends}
 use Rattle.copier.proofs.StepLemmas.{ended_cleared, ended_fewer, first_keeps_window, near_of}
 use Rattle.copier.proofs.keeping.end_next.Goals as goal
 
@@ -22,3 +23,11 @@ pub returns-in-Err-clause-cleared : goal.returns-in-Err-clause-cleared
 returns-in-Err-clause-cleared g c told =
     ended_cleared c.args.job.now c.args.progress.now c.in-Ok.course (g.B.Bench.disk c.end_range.new.bench) c.in-Err.fault c.refuse.result c.in-Ok.is
     (c.refuse.ensures.given ∙ c.from.ensures) (c.in-Err.ensures.none_left told)
+
+pub returns-in-Ok-end_range-clause-ends : goal.returns-in-Ok-end_range-clause-ends
+returns-in-Ok-end_range-clause-ends g c told s start along right = tt
+
+pub returns-in-Err-clause-ends : goal.returns-in-Err-clause-ends
+returns-in-Err-clause-ends g c told =
+    ended_ends g.B.Bench.told c.args.job.now c.args.progress.now c.in-Ok.course c.args.r (g.B.Bench.disk c.args.bench.now) (g.B.Bench.meter c.args.bench.now) (g.B.Bench.meter c.end_range.new.bench)
+    c.in-Err.fault c.refuse.result c.in-Ok.is c.requires.sound c.requires.next (c.requires.fits told) told (c.refuse.ensures.given ∙ c.from.ensures) c.in-Err.ensures.cause

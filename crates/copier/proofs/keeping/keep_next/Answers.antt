@@ -1,6 +1,7 @@
 -- What is next, by the function that does it.
 use Rattle.std.proofs.Common.{◌∙◌, subst, sym}
 use Rattle.copier_course.specs.declared.jobs.Need.{Need}
+use Rattle.copier.proofs.EndingLemmas.{done_ends, kept_ends}
 use Rattle.copier.proofs.StepLemmas.{rests_done, rests_near}
 use Rattle.copier.specs.Steps.{IsIdleNeed, IsUnitNeed}
 use Rattle.copier.proofs.keeping.keep_next.Goals as goal
@@ -25,3 +26,11 @@ returns-in-Done-clause-done g c told =
 pub returns-in-Failed-clause-narrow : goal.returns-in-Failed-clause-narrow
 returns-in-Failed-clause-narrow g c told =
     rests_near c.args.job.now c.args.progress.now (g.B.Bench.disk c.args.bench.now) c.requires.sound (c.requires.fits told)
+
+pub returns-in-Done-clause-ends : goal.returns-in-Done-clause-ends
+returns-in-Done-clause-ends g c told =
+    done_ends c.args.job.now c.args.progress.now (g.B.Bench.disk c.args.bench.now) c.requires.sound (sym c.next_in.ensures ∙ c.in-Done.is) (c.requires.fits told)
+
+pub returns-in-Failed-clause-ends : goal.returns-in-Failed-clause-ends
+returns-in-Failed-clause-ends g c told =
+    kept_ends c.args.job.now c.args.progress.now (g.B.Bench.disk c.args.bench.now) c.kept_in.result c.kept_in.result c.kept_in.ensures

@@ -1,5 +1,7 @@
 -- A unit is kept, by its move, which writes nothing.
+use Rattle.std.proofs.Common.{◌∙◌}
 use Rattle.bench.proofs.DiskLemmas.{looked_keeps}
+use Rattle.copier.proofs.EndingLemmas.{device_ends}
 use Rattle.copier.proofs.StepLemmas.{near_of}
 use Rattle.copier.proofs.keeping.pass_next.Goals as goal
 
@@ -14,3 +16,10 @@ returns-in-Ok-keep_unit-clause-narrow g c told = near_of c.args.job.now c.args.p
 
 pub returns-in-Err-clause-narrow : goal.returns-in-Err-clause-narrow
 returns-in-Err-clause-narrow g c told = near_of c.args.job.now c.args.progress.now c.in-Ok.course c.in-Ok.is (c.keep_unit.ensures.narrow told)
+
+pub returns-in-Ok-keep_unit-clause-ends : goal.returns-in-Ok-keep_unit-clause-ends
+returns-in-Ok-keep_unit-clause-ends g c told s start along right = tt
+
+pub returns-in-Err-clause-ends : goal.returns-in-Err-clause-ends
+returns-in-Err-clause-ends g c told =
+    device_ends c.args.job.now c.args.progress.now (g.B.Bench.disk c.args.bench.now) c.refuse.result c.in-Err.fault.dev (c.refuse.ensures.given ∙ c.from.ensures)

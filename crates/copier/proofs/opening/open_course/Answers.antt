@@ -1,5 +1,5 @@
 -- The opening of a copier, by its one call.
-use Rattle.std.proofs.Common.{◌≡◌, ℕ, List, length, sym, ap, ◌∙◌}
+use Rattle.std.proofs.Common.{ℕ, List, length, sym, ap, ◌∙◌}
 use Rattle.bench.specs.declared.Dev.TheVariants.{Journal}
 use Rattle.copy_opening.proofs.OpeningLemmas.{looked_opens, opening_is_narrow, opening_keeps_own}
 use Rattle.copier_moves.proofs.KeepLemmas.{looked_none}

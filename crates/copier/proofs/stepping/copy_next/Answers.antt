@@ -4,7 +4,8 @@ use Rattle.std.specs.Prelude.{Err, Ok}
 use Rattle.std.proofs.lemmas.Result.{on_ok_weaker}
 use Rattle.base_fields.specs.declared.spans.Span.{Span}
 use Rattle.bench.proofs.DiskLemmas.{looked_keeps}
-use Rattle.copier_moves.proofs.KeepLemmas.{image_size, looked_none, unit_at, unit_size}
+use Rattle.copier_moves.proofs.KeepLemmas.{looked_none, unit_at, unit_size}
+use Rattle.copier.proofs.EndingLemmas.{copied_ends, refused_ends}
 use Rattle.copier.proofs.CopyLemmas.{copied_along, copied_cause, copied_cleared, copied_done, copied_next, copied_since, copied_tells, copied_window, no_costs, reads_source, refused_cause, refused_cleared, refused_goes, refused_tells, unit_costs, unit_inside}
 use Rattle.copier.proofs.SourceLemmas.{one_span}
 use Rattle.copier.specs.Faults.{IsReadFault}
@@ -146,3 +147,19 @@ returns-in-Err-clause-bill g c =
     let at = unit_at job c.args.k u c.requires.sound.of_job c.span-span.ensures.exact in
     let meter = g.B.Bench.meter c.args.bench.now in
     unit_costs job _ c.args.k 0 u (Err c.refuse.result) meter meter c.requires.next at (omega arith) (no_costs meter)
+
+pub returns-in-Ok-clause-ends : goal.returns-in-Ok-clause-ends
+returns-in-Ok-clause-ends g c told =
+    copied_ends g.F.Files.told (g.F.Files.file c.args.files.now c.args.job.now.source) c.args.job.now c.args.progress.now (g.B.Bench.disk c.args.bench.now) c.args.k
+    (g.B.Bench.meter c.args.bench.now) (g.B.Bench.meter c.put_next.new.bench) c.put_next.result c.put_next.ensures.unit c.put_next.ensures.cause
+
+pub returns-in-Err-clause-ends : goal.returns-in-Err-clause-ends
+returns-in-Err-clause-ends g c told =
+    let job = c.args.job.now in
+    let was = c.args.progress.now in
+    let u = c.span-span.result in
+    let at = unit_at job c.args.k u c.requires.sound.of_job c.span-span.ensures.exact in
+    let file = g.F.Files.file c.args.files.now job.source in
+    let read = λ (t : g.F.Files.told). subst (λ (x : CopyFault). ReadsInto (span_of file u.at u.len) c.read_unit.new.part (Err x)) (sym c.refuse.ensures.given)
+    (subst (λ (n : List ℕ). ReadsInto (span_of (g.F.Files.file c.args.files.now n) u.at u.len) c.read_unit.new.part (Err c.in-Err.fault)) c.text.ensures (c.in-Err.ensures.read t)) in
+    refused_ends g.F.Files.told file job was (g.B.Bench.disk c.args.bench.now) c.args.k u c.read_unit.new.part c.refuse.result c.requires.sound c.requires.next at c.span-span.ensures.filled (c.requires.fits told) read

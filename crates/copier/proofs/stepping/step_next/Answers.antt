@@ -31,3 +31,6 @@ returns-in_default-clause-cause g c =
 
 pub returns-in_default-clause-source : goal.returns-in_default-clause-source
 returns-in_default-clause-source g c told k u next at = absurd (c.in_default.not-Unit k (c.next_in.ensures ∙ next))
+
+pub returns-in_default-clause-ends : goal.returns-in_default-clause-ends
+returns-in_default-clause-ends g c told s start is along right = c.keep_next.ensures.ends told s start along right

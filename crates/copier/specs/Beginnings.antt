@@ -1,12 +1,11 @@
 -- What a copier is that was opened.
-use Rattle.std.specs.Prelude.{◌≡◌, ℕ, List, Option, Result, Ok, Err}
+use Rattle.std.specs.Prelude.{◌≡◌, ℕ, List, Option, Ok, Err}
 use Rattle.bench.specs.Disk.{Disk}
 use Rattle.copy_opening.specs.Openings.{start_of}
 use Rattle.copy_opening.specs.declared.opening.Mode.TheVariants.{Fresh}
 use Rattle.copier_course.specs.Courses.{IsAtFirst}
 use Rattle.copier_course.specs.declared.courses.Course.{Course}
 use Rattle.copier_course.specs.declared.jobs.CopyJob.{CopyJob}
-use Rattle.copier_moves.specs.Fitting.{IsFitting}
 use Rattle.copier_moves.specs.Moves.{IsAlong}
 use Rattle.copier.specs.Copiers.{CameAlong, Copying, Fits, Progress}
 

@@ -1,0 +1,33 @@
+-- What is kept, by the fields that contracts see.
+use Rattle.std.proofs.Common.{subst}
+use Rattle.std.specs.Prelude.{OnOk}
+use Rattle.copy_stages.specs.Stages.{KeepsOwn}
+use Rattle.copier_moves.specs.Moves.{MovingKeepsSince}
+use Rattle.copier.specs.Copiers.{Copying}
+use Rattle.copier.specs.Ends.{KeepEnds}
+use Rattle.copier.specs.Runs.{GoesAlong}
+use Rattle.copier.proofs.copiers.Copier.keep.Goals as goal
+
+pub returns-clause-since : goal.returns-clause-since
+returns-clause-since g c told =
+    let a = g.B.Bench.disk c.args.bench.now in
+    let b = g.B.Bench.disk c.keep_next.new.bench in
+    subst (λ (v : Copying). MovingKeepsSince v.job a b) c.self.view_is (c.keep_next.ensures.since told)
+
+pub returns-clause-own : goal.returns-clause-own
+returns-clause-own g c told =
+    let a = g.B.Bench.disk c.args.bench.now in
+    let b = g.B.Bench.disk c.keep_next.new.bench in
+    subst (λ (v : Copying). KeepsOwn v.job.id a b) c.self.view_is (c.keep_next.ensures.own told)
+
+pub returns-clause-along : goal.returns-clause-along
+returns-clause-along g c told =
+    let a = g.B.Bench.disk c.args.bench.now in
+    let b = g.B.Bench.disk c.keep_next.new.bench in
+    subst (λ (v : Copying). OnOk c.keep_next.result (GoesAlong v.job v.progress c.keep_next.new.progress a b)) c.self.view_is (c.keep_next.ensures.along told)
+
+pub returns-clause-ends : goal.returns-clause-ends
+returns-clause-ends g c told =
+    let a = g.B.Bench.disk c.args.bench.now in
+    let b = g.B.Bench.disk c.keep_next.new.bench in
+    subst (λ (v : Copying). KeepEnds v.job v.progress a c.keep_next.result) c.self.view_is (c.keep_next.ensures.ends told)
