@@ -31,9 +31,9 @@ put_closed job c d new bytes takes full records =
     let hashed : new.hash ≡ d.hash = ap (λ (x : Course). x.hash) records.same in
     record {
       same = records.same
-        ∙ ap (λ (x : Course). record x { units = new.units; pending = [] }) takes.same
-        ∙ ap (λ (ks : List ℕ). record c { units = new.units; unit = c.unit + 1; pending = ks; hash = d.hash }) (sym empty)
-        ∙ ap (λ (h : Sha256). record c { units = new.units; unit = c.unit + 1; pending = new.pending; hash = h }) (sym hashed);
+          ∙ ap (λ (x : Course). record x { units = new.units; pending = [] }) takes.same
+          ∙ ap (λ (ks : List ℕ). record c { units = new.units; unit = c.unit + 1; pending = ks; hash = d.hash }) (sym empty)
+          ∙ ap (λ (h : Sha256). record c { units = new.units; unit = c.unit + 1; pending = new.pending; hash = h }) (sym hashed);
       window = inr (record {
         full = full_joined job c d bytes takes full;
         units = subst (λ (x : Course). AreMarkedIn x.pending x.units new.units) takes.same records.units;
