@@ -100,6 +100,7 @@ pub fn end_range<B: Bench>(
     requires fits { B.told → IsFitting job.now course.old (B.disk bench.old) }
     ensures since { B.told → MovingKeepsSince job.now (B.disk bench.old) (B.disk bench.new) }
     ensures own { B.told → KeepsOwn job.now.id (B.disk bench.old) (B.disk bench.new) }
+    ensures same_target { B.told → (B.disk bench.new).reads Dev.Target ≡ (B.disk bench.old).reads Dev.Target }
     ensures fits { B.told → OnOk result (IsFitting job.now course.new (B.disk bench.new)) }
     ensures narrow { B.told → MovingIsNear job.now course.old (B.disk bench.old) (B.disk bench.new) }
     ensures along { B.told → OnOk result (MovingIsAlong job.now course.old course.new (B.disk bench.old) (B.disk bench.new)) }
