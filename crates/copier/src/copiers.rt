@@ -19,7 +19,7 @@ ghost use Rattle.copier.specs.Ends.{KeepEnds, StepEnds};
 ghost use Rattle.copier.specs.Faults.{IsOpenFault, IsPutFault, IsUnwritten};
 ghost use Rattle.copier.specs.Beginnings.{HasBegun, OpensAlong, OpensFitting};
 ghost use Rattle.copier.specs.Pools.{HasBuffer, OpensPool, UsesSlot};
-ghost use Rattle.copier.specs.Runs.{ClearsTheRange, GoesAlong, HasKeepCause, HasStepCause, KeepsWindow, PutGoesAlong, PutKeepsSince, PutKeepsWindow, ShowsDone, StaysNear, StepGoesAlong, StepKeepsSince, StepKeepsWindow};
+ghost use Rattle.copier.specs.Runs.{ClearsTheRange, GoesAlong, HasKeepCause, HasStepCause, KeepsWindow, PutGoesAlong, PutKeepsSince, PutKeepsWindow, SameTarget, ShowsDone, StaysNear, StepGoesAlong, StepKeepsSince, StepKeepsWindow};
 ghost use Rattle.copier.specs.Steps.{CostsFor, GoesTo, IsForNext, IsForUnit, IsIdleNeed, IsUnitNeed, LeavesFewer, ReadsSource};
 
 use crate::keeping::{keep_next, next_in};
@@ -117,6 +117,7 @@ impl<'a> Copier<'a> {
         ensures lease { self.new.lease ≡ self.old.lease }
         ensures since { B.told → StepKeepsSince F.told (F.file files.old self.old.job.source) self.old.job self.old.progress (B.disk bench.old) (B.disk bench.new) }
         ensures own { B.told → KeepsOwn self.old.job.id (B.disk bench.old) (B.disk bench.new) }
+        ensures same_target { B.told → ¬ IsUnitNeed (next_of self.old.job self.old.progress) → SameTarget (B.disk bench.old) (B.disk bench.new) }
         ensures fits { B.told → Fits self.new.job self.new.progress (B.disk bench.new) }
         ensures window { B.told → OnOk result (StepKeepsWindow F.told (F.file files.old self.old.job.source) self.old.job self.old.progress self.new.progress (B.disk bench.old) (B.disk bench.new)) }
         ensures narrow { B.told → StaysNear self.old.job self.old.progress (B.disk bench.old) (B.disk bench.new) }
@@ -184,6 +185,7 @@ impl<'a> Copier<'a> {
         ensures lease { self.new.lease ≡ self.old.lease }
         ensures since { B.told → MovingKeepsSince self.old.job (B.disk bench.old) (B.disk bench.new) }
         ensures own { B.told → KeepsOwn self.old.job.id (B.disk bench.old) (B.disk bench.new) }
+        ensures same_target { B.told → SameTarget (B.disk bench.old) (B.disk bench.new) }
         ensures fits { B.told → Fits self.new.job self.new.progress (B.disk bench.new) }
         ensures window { B.told → OnOk result (KeepsWindow self.old.job self.old.progress self.new.progress (B.disk bench.old) (B.disk bench.new)) }
         ensures narrow { B.told → StaysNear self.old.job self.old.progress (B.disk bench.old) (B.disk bench.new) }
