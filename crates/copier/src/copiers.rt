@@ -55,6 +55,9 @@ impl<'a> Model for Copier<'a> {
 impl<'a> Copier<'a> {
     /// Opens a copy: waits until the target is on its disk, and opens the journal, in the mode `Fresh` with the job's
     /// window. All memory of the copy is taken before the first write. After a refusal the buffer was given back.
+    ///
+    /// Refuses with `TargetTooSmall`, `DeviceFault` or `NoMemory`, in the mode `Fresh` with `JournalHeld`, and in the
+    /// mode `Again` with `NoJournal` or `JournalForeign`.
     pub fn open<B: Bench>(
         alloc: Global,
         bench: &mut B,
@@ -103,6 +106,8 @@ impl<'a> Copier<'a> {
 
     /// Does what is next: reads a unit from the source and writes it, passes one that is recorded, or ends a range.
     /// After a refusal it answers that same refusal from then on and calls nothing. Takes no memory.
+    ///
+    /// Refuses with `Missing`, `SourceShort` or `FileFault` of the source, `DeviceFault` or `RangeDiffers`.
     pub fn step<F: Files, B: Bench>(
         &mut self,
         files: &mut F,
@@ -149,7 +154,8 @@ impl<'a> Copier<'a> {
         next_in(self.job, &self.progress)
     }
 
-    /// Writes unit `k`, which is next, with these bytes, of which there are as many as it has. Takes no memory.
+    /// Writes unit `k`, which is next, with these bytes, of which there are as many as it has. Takes no memory. Refuses
+    /// with `DeviceFault` alone.
     pub fn put<B: Bench>(&mut self, bench: &mut B, k: u64, bytes: &[u8]) -> Result<Step, CopyFault>
         requires target { IsAttached (B.meter bench.old) Dev.Target }
         requires journal { IsAttached (B.meter bench.old) Dev.Journal }
@@ -174,7 +180,8 @@ impl<'a> Copier<'a> {
         put_next(bench, self.job, &mut self.progress, k, bytes)
     }
 
-    /// Does what is next, where no unit is to be written: passes one that is recorded, or ends a range. Takes no memory.
+    /// Does what is next, where no unit is to be written: passes one that is recorded, ends a range, or answers the kept
+    /// refusal again. Takes no memory. Refuses with `DeviceFault` or `RangeDiffers`.
     pub fn keep<B: Bench>(&mut self, bench: &mut B, pool: &mut Pool) -> Result<Step, CopyFault>
         requires target { IsAttached (B.meter bench.old) Dev.Target }
         requires journal { IsAttached (B.meter bench.old) Dev.Journal }
