@@ -4,3 +4,4 @@ pub mod UnitLemmas
 pub mod PutLemmas
 pub mod EndLemmas
 pub mod KeepLemmas
+pub mod WindowLemmas

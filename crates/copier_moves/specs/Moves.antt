@@ -17,7 +17,7 @@ use Rattle.copy_states.specs.Starts.{Pair}
 use Rattle.copy_laws.specs.Marks.{AreCopied}
 use Rattle.copy_narrow.specs.Nearness.{StaysNear}
 use Rattle.copy_narrow.specs.Written.{AreFrom}
-use Rattle.copier_course.specs.Courses.{position_of, rows_in}
+use Rattle.copier_course.specs.Courses.{AreMarkedIn, GoesOn, IsFull, position_of, rows_in}
 use Rattle.copier_course.specs.declared.courses.Course.{Course}
 use Rattle.copier_course.specs.declared.jobs.CopyJob.{CopyJob}
 use Rattle.copier_moves.specs.declared.faults.EndFault.{EndFault}
@@ -54,10 +54,27 @@ abbrev pub PuttingIsAlong : CopyJob → List ℕ → Course → Course → Disk 
 PuttingIsAlong job bytes was now old new = (source : Option (List ℕ)) (start : Pair) →
     IsAlong job source start was old → AreSources job source was.unit bytes → IsAlong job source start now new
 
--- the present unit is passed: it has joined the window, or with it the window, which is full, was recorded
+-- the course behind its present unit, which has joined the window
+abbrev pub joined : Course → Course
+joined c = record c { unit = c.unit + 1; pending = c.pending ++ c.unit ∷ [] }
+
+-- with the unit the window has room and the range a further unit that isn't recorded, and nothing was recorded
+pub record LeavesOpen (job : CopyJob) (c new : Course) : Type 0 where
+  pub open_on : GoesOn job c
+  pub units : new.units ≡ c.units
+  pub pending : new.pending ≡ c.pending
+
+-- with the unit the window was full, or the range has no further one that isn't recorded; the window's units were
+-- recorded, and no other
+pub record ClosesFull (job : CopyJob) (c new : Course) : Type 0 where
+  pub full : IsFull job c
+  pub units : AreMarkedIn c.pending c.units new.units
+  pub pending : new.pending ≡ []
+
+-- the present unit is passed: it has joined the window, whose units were recorded exactly where it was full with it
 pub record IsPut (job : CopyJob) (old new : Course) : Type 0 where
   pub same : new ≡ record old { units = new.units; unit = old.unit + 1; pending = new.pending; hash = new.hash }
-  pub window : ((new.units ≡ old.units) × (new.pending ≡ old.pending ++ old.unit ∷ [])) ⊎ (new.pending ≡ [])
+  pub window : LeavesOpen job (joined old) new ⊎ ClosesFull job (joined old) new
 
 -- ---- a move without bytes from outside
 abbrev pub MovingKeepsSince : CopyJob → Disk → Disk → Type 0

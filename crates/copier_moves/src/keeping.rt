@@ -10,7 +10,7 @@ ghost use Rattle.copy_journal.specs.Faults.{HasFailed};
 ghost use Rattle.copy_states.specs.Jobs.{IsRangeAt};
 ghost use Rattle.copy_stages.specs.Faults.{IsCauseOn};
 ghost use Rattle.copy_stages.specs.Stages.{KeepsOwn};
-ghost use Rattle.copier_course.specs.Courses.{Adds, Checks, IsBehind, IsCopyJob, IsCourse, IsInside};
+ghost use Rattle.copier_course.specs.Courses.{Adds, Checks, IsAtFirst, IsBehind, IsCopyJob, IsCourse, IsInside};
 ghost use Rattle.copier_moves.specs.Fitting.{IsFitting};
 ghost use Rattle.copier_moves.specs.Moves.{Differs, IsEndFault, IsKept, MovingIsAlong, MovingIsNear, MovingKeepsSince, NoneIsLeft, units_in_range};
 
@@ -100,11 +100,13 @@ pub fn end_range<B: Bench>(
     requires fits { B.told → IsFitting job.now course.old (B.disk bench.old) }
     ensures since { B.told → MovingKeepsSince job.now (B.disk bench.old) (B.disk bench.new) }
     ensures own { B.told → KeepsOwn job.now.id (B.disk bench.old) (B.disk bench.new) }
+    ensures same_target { B.told → (B.disk bench.new).reads Dev.Target ≡ (B.disk bench.old).reads Dev.Target }
     ensures fits { B.told → OnOk result (IsFitting job.now course.new (B.disk bench.new)) }
     ensures narrow { B.told → MovingIsNear job.now course.old (B.disk bench.old) (B.disk bench.new) }
     ensures along { B.told → OnOk result (MovingIsAlong job.now course.old course.new (B.disk bench.old) (B.disk bench.new)) }
     ensures course { OnOk result (IsCourse job.now course.new) }
     ensures checked { OnOk result (Checks course.old course.new) }
+    ensures first { OnOk result (IsAtFirst job.now course.new) }
     ensures none_left { B.told → IfErr result (NoneIsLeft job.now (B.disk bench.new)) }
     ensures cause { IfErr result (IsEndFault B.told job.now course.old (B.disk bench.old) (B.meter bench.old) (B.meter bench.new)) }
     ensures bill { Costs (1024 + 2 * units_in_range job.now course.old.range) (B.meter bench.old) (B.meter bench.new) }

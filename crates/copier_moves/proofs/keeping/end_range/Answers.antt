@@ -274,3 +274,15 @@ returns-clause-along g c told =
 pub returns-clause-checked : goal.returns-clause-checked
 returns-clause-checked g c =
     checks_rehashed c.args.course.now c.difference.new.course c.check.new.self c.difference.ensures.same c.check.ensures.checks
+
+pub returns-in_err-clear_units-clause-same_target : goal.returns-in_err-clear_units-clause-same_target
+returns-in_err-clear_units-clause-same_target g c told = (c.clear_units.ensures.touches told).changes.other_reads
+
+pub returns-in-Some-clause-same_target : goal.returns-in-Some-clause-same_target
+returns-in-Some-clause-same_target g c told = (c.clear_units.ensures.touches told).changes.other_reads
+
+pub returns-in_err-check_range-clause-same_target : goal.returns-in_err-check_range-clause-same_target
+returns-in_err-check_range-clause-same_target g c told = (c.check_range.ensures.touches told).changes.other_reads
+
+pub returns-clause-same_target : goal.returns-clause-same_target
+returns-clause-same_target g c told = (c.check_range.ensures.touches told).changes.other_reads

@@ -2,13 +2,14 @@
 use Rattle.std.proofs.Common.{◌≡◌, ◌<◌, ℕ, List, length, subst, sym, arith}
 use Rattle.std.specs.List.Sorted.{IsStrictlyIncreasing}
 use Rattle.base_fields.specs.Numbers.{IsBetween}
-use Rattle.std.proofs.lemmas.Bool.{MatchBool-at_false}
+use Rattle.std.proofs.lemmas.Bool.{MatchBool-at_false, MatchBool-at_true}
 use Rattle.bench.proofs.DiskLemmas.{keeps_then, runs_then}
 use Rattle.copy_stages.specs.Stages.{Closes, ClosingKeepsSince}
 use Rattle.bench.specs.declared.Dev.TheVariants.{Journal}
 use Rattle.journal_format.specs.Journals.{IsMarked, unit_mark}
 use Rattle.std.specs.Prelude.{All, Some}
 use Rattle.copier_moves.proofs.PutLemmas.{close_is_near, close_keeps_since, inside_below, number_inside, pending_few, pending_inside, pending_marked, pending_rises, putting_of, recorded_along, recorded_copied, recorded_course, recorded_fits, room_for_one, taken_along, taken_copied, taken_course, taken_fits, taken_high, taken_there, taken_units, unit_small, write_is_near, write_keeps_since}
+use Rattle.copier_moves.proofs.WindowLemmas.{put_closed, put_open}
 use Rattle.copier_moves.proofs.putting.put_unit.Goals as goal
 
 pub span-span-requires : goal.span-span-requires
@@ -384,3 +385,13 @@ record_pending-requires g c =
     let bytes = c.args.bytes.now in
     let putting = putting_of job was u bytes c.requires.job c.requires.course c.requires.inside c.requires.unmarked c.span-span.ensures.exact c.span-span.ensures.end c.requires.whole in
     pending_marked job was u bytes putting c.take.new.self c.take.ensures
+
+pub returns-then-not-is_full-clause-put : goal.returns-then-not-is_full-clause-put
+returns-then-not-is_full-clause-put g c =
+    let on = MatchBool-at_false _ _ c.if-not-is_full.true c.is_full.ensures in
+    put_open c.args.job.now c.args.course.now c.take.new.self c.args.bytes.now c.take.ensures on
+
+pub returns-clause-put : goal.returns-clause-put
+returns-clause-put g c =
+    let full = MatchBool-at_true _ _ c.if-not-is_full.false c.is_full.ensures in
+    put_closed c.args.job.now c.args.course.now c.take.new.self c.record_pending.new.self c.args.bytes.now c.take.ensures full c.record_pending.ensures
