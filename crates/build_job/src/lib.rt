@@ -15,4 +15,5 @@ mod sparse;
 
 pub use all::build_images;
 pub use faults::BuildFault;
+pub use measures::sparse_length;
 pub use one::build_image;

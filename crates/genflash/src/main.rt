@@ -1,10 +1,11 @@
 //! genflash: the last step of an embedded Linux build. It hands the words behind its name and the environment's
-//! variables to `run`, over the real files and standard output, and ends with the answer's status.
+//! variables to `run`, over the real files and devices and standard output, and ends with the answer's status.
 #![tactic(auto)]
 
 mod handing;
 
 use answer_lines::{Answer, LINE_ROOM, error_line};
+use bench_devices::HostBench;
 use handing::hand_in;
 use host_files::{HostFiles, HostPrinter};
 use image_jobs::run;
@@ -41,9 +42,11 @@ fn refused(answer: &Answer, printer: &mut HostPrinter<HostRuntime>) -> u8 {
     answer.status()
 }
 
+#[tactic(auto, using(crate::proofs::Names::may_attach))]
 fn status(rt: &HostRuntime) -> Option<u8> {
     let arguments = arguments(rt)?;
     let mut files = HostFiles::new(rt.clone().ok()?);
+    let mut bench = HostBench::new(rt.clone().ok()?);
     let mut printer = HostPrinter::new(rt.clone().ok()?);
     let environment = match environment(rt) {
         Ok(environment) => environment,
@@ -56,6 +59,7 @@ fn status(rt: &HostRuntime) -> Option<u8> {
         &handed.words,
         &handed.vars,
         &mut files,
+        &mut bench,
         &mut printer,
     );
     Some(answer.status())

@@ -1,3 +1,8 @@
 -- lemmas
+mod CountedLemmas
 mod LineLemmas
+mod MapLemmas
 mod RunLemmas
+mod SaidLemmas
+mod UnreadLemmas
+mod VerifyLemmas

@@ -34,37 +34,6 @@ use Rattle.image_jobs.specs.BuildArm.{BuildChanges, IsShown, build_lines, done_l
 use Rattle.image_jobs.specs.Printed.{HasError, IsRefusal, Reports, report_lines, reported_by}
 use Rattle.image_jobs.specs.declared.request.Request.{Request}
 
--- ---- the reading
-
--- the fault of the configuration is the plan's refusal
-pub conf_refuses : (wanted : Result Conf ConfFault) (with : Conf → Conf) (next : Conf → Result Graph Answer) (fault : ConfFault)
-    → ConfRefuses wanted fault
-    → Refuses is_counted (refused_by conf_answer wanted >>= (λ conf. Ok (with conf)) >>= next) (conf_answer fault)
-conf_refuses wanted with next (conf.BadText name place) h = rw h refl
-conf_refuses wanted with next (conf.UnknownKey name place) h = rw h refl
-conf_refuses wanted with next (conf.BadValue name place) h = rw h refl
-conf_refuses wanted with next (conf.Unset var) h = rw h refl
-conf_refuses wanted with next (conf.DeepInclude name) h = rw h refl
-conf_refuses wanted with next (conf.TooLong total) h = rw h refl
-conf_refuses wanted with next (conf.Missing name) h = rw h refl
-conf_refuses wanted with next (conf.SourceShort name at) h = rw h refl
-conf_refuses wanted with next conf.FileFault h = tt
-conf_refuses wanted with next conf.NoMemory h = tt
-
--- other paths break no limit
-pub paths_within : (request : Request) (own conf : Conf) → conf ≡ with_paths request own → IsWithin own → IsWithin conf
-paths_within request own conf same h = subst IsWithin (sym same) (record { flashes = h.flashes; images = h.images })
-
--- so is that of its graph
-pub graph_refuses : (wanted : Result Graph GraphFault) (fault : GraphFault) → (fault ≢ graph.NoMemory → wanted ≡ Err fault)
-    → Refuses is_counted (refused_by graph_answer wanted) (graph_answer fault)
-graph_refuses wanted (graph.TooMany count limit) h = rw (h (λ is. cc)) refl
-graph_refuses wanted (graph.NoKind image count) h = rw (h (λ is. cc)) refl
-graph_refuses wanted (graph.NoFlash image) h = rw (h (λ is. cc)) refl
-graph_refuses wanted (graph.NameClash name) h = rw (h (λ is. cc)) refl
-graph_refuses wanted (graph.Cycle name) h = rw (h (λ is. cc)) refl
-graph_refuses wanted graph.NoMemory h = tt
-
 -- ---- the causes of a fault of the building
 
 place_shown : (before now : Counts) (fault : PlaceFault) → IsShown before now (place_answer fault)

@@ -20,8 +20,6 @@ use Rattle.placement_rules.specs.declared.faults.PlaceFault.{PlaceFault}
 use Rattle.placement_rules.specs.declared.faults.PlaceFault.TheVariants as place
 use Rattle.build_job.specs.declared.faults.BuildFault.{BuildFault}
 use Rattle.build_job.specs.declared.faults.BuildFault.TheVariants as build
-use Rattle.image_jobs.specs.declared.reading.ReadFault.{ReadFault}
-use Rattle.image_jobs.specs.declared.reading.ReadFault.TheVariants as read
 
 -- ---- the configuration and its graph
 
@@ -44,10 +42,6 @@ graph_answer (graph.NoFlash image) = answer.NoFlash image
 graph_answer (graph.NameClash name) = answer.NameClash name
 graph_answer (graph.Cycle name) = answer.Cycle name
 graph_answer graph.NoMemory = answer.NoMemory
-
-abbrev pub read_answer : ReadFault → Answer
-read_answer (read.Conf fault) = conf_answer fault
-read_answer (read.Graph fault) = graph_answer fault
 
 -- ---- the images
 

@@ -1,10 +1,9 @@
 //! The answer of a fault.
 ghost use Rattle.std.specs.Prelude.{◌≡◌};
 ghost use Rattle.image_jobs.specs.Answering.{IsCopied, build_answer, compose_answer, conf_answer, file_at, full_at, graph_answer};
-ghost use Rattle.image_jobs.specs.Answering.{length_answer, place_answer, plan_answer, read_answer, source_file};
+ghost use Rattle.image_jobs.specs.Answering.{length_answer, place_answer, plan_answer, source_file};
 ghost use Rattle.image_jobs.specs.Printed.{IsRefusal};
 
-use crate::reading::ReadFault;
 use answer_lines::Answer;
 use base_fields::{Name, NoMemory};
 use build_job::BuildFault;
@@ -16,7 +15,8 @@ use std::alloc::Global;
 
 // ---- the configuration and its graph
 
-fn answer_of_conf(fault: ConfFault) -> Answer
+/// The answer of a fault of the configuration.
+pub fn answer_of_conf(fault: ConfFault) -> Answer
     ensures answer { result ≡ conf_answer fault }
     ensures refusal { IsRefusal result }
 {
@@ -34,7 +34,8 @@ fn answer_of_conf(fault: ConfFault) -> Answer
     }
 }
 
-fn answer_of_graph(fault: GraphFault) -> Answer
+/// The answer of a fault of its graph.
+pub fn answer_of_graph(fault: GraphFault) -> Answer
     ensures answer { result ≡ graph_answer fault }
     ensures refusal { IsRefusal result }
 {
@@ -45,17 +46,6 @@ fn answer_of_graph(fault: GraphFault) -> Answer
         GraphFault::NameClash { name } => Answer::NameClash { name },
         GraphFault::Cycle { name } => Answer::Cycle { name },
         GraphFault::NoMemory => Answer::NoMemory,
-    }
-}
-
-/// The answer of a fault of the reading.
-pub fn answer_of_read(fault: ReadFault) -> Answer
-    ensures answer { result ≡ read_answer fault }
-    ensures refusal { IsRefusal result }
-{
-    match fault {
-        ReadFault::Conf(fault) => answer_of_conf(fault),
-        ReadFault::Graph(fault) => answer_of_graph(fault),
     }
 }
 
@@ -133,8 +123,8 @@ fn answer_of_place(fault: PlaceFault) -> Answer
     }
 }
 
-// That a file isn't there.
-fn missing(alloc: Global, name: &str) -> Answer
+/// That a file isn't there. Takes the memory of its name.
+pub fn missing(alloc: Global, name: &str) -> Answer
     ensures answer { IsCopied (Answer.Missing name.now) result }
     ensures refusal { IsRefusal result }
 {
@@ -144,8 +134,8 @@ fn missing(alloc: Global, name: &str) -> Answer
     }
 }
 
-// That a file ends at or before a byte that is needed.
-fn short(alloc: Global, name: &str, at: u64) -> Answer
+/// That a file ends at or before the byte at `at`, which is needed. Takes the memory of its name.
+pub fn short(alloc: Global, name: &str, at: u64) -> Answer
     ensures answer { IsCopied (Answer.SourceShort name.now at) result }
     ensures refusal { IsRefusal result }
 {
@@ -155,7 +145,8 @@ fn short(alloc: Global, name: &str, at: u64) -> Answer
     }
 }
 
-fn answer_of_plan(alloc: Global, graph: &Graph, image: u32, fault: PlanFault) -> Answer
+/// The answer of a fault of the plan of the image of that number. Takes the memory of a name.
+pub fn answer_of_plan(alloc: Global, graph: &Graph, image: u32, fault: PlanFault) -> Answer
     ensures answer { IsCopied (plan_answer graph.now image fault) result }
     ensures refusal { IsRefusal result }
 {
@@ -182,7 +173,8 @@ fn answer_of_compose(alloc: Global, graph: &Graph, image: u32, fault: ComposeFau
     }
 }
 
-fn answer_of_length(alloc: Global, graph: &Graph, image: u32, fault: FileErr) -> Answer
+/// The answer where the length of that image's own file isn't given. Takes the memory of its name.
+pub fn answer_of_length(alloc: Global, graph: &Graph, image: u32, fault: FileErr) -> Answer
     ensures answer { IsCopied (length_answer graph.now image fault) result }
     ensures refusal { IsRefusal result }
 {

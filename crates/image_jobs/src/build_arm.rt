@@ -11,7 +11,7 @@ ghost use Rattle.image_jobs.specs.Build.{graph_said};
 ghost use Rattle.image_jobs.specs.BuildArm.{AllBuilt, BuildAnswers, BuildCause, BuildChanges, HasBuilt, IsComplete, IsShown, IsUnbuilt, build_lines};
 ghost use Rattle.image_jobs.specs.Printed.{IsRefusal};
 
-use crate::answering::{answer_of_build, answer_of_read};
+use crate::answering::answer_of_build;
 use crate::printing::{refuse, report_built};
 use crate::reading::read_graph;
 use crate::request::Request;
@@ -48,7 +48,7 @@ pub fn run_build<F: Files, P: Printer>(
 {
     let graph = match read_graph(alloc, files, request, vars) {
         Ok(graph) => graph,
-        Err(fault) => return refuse(answer_of_read(fault), out),
+        Err(refusal) => return refuse(refusal, out),
     };
     match build_graph(alloc, files, &graph) {
         Ok(sizes) => report_built(&graph, sizes.as_slice(), out),

@@ -1,12 +1,16 @@
-//! The commands: from their words to their answer, over any files and any printer.
+//! The commands: from their words to their answer, over any files, devices and printer.
 #![tactic(auto)]
 
 mod answering;
 mod build_arm;
+mod list_arm;
+mod map_arm;
 mod printing;
 mod reading;
 mod request;
 mod running;
+mod verify_arm;
 
 pub use conf_sections::Vars;
+pub use request::{DeviceNames, device_names};
 pub use running::run;

@@ -43,8 +43,8 @@ pub fn report_built<P: Printer>(graph: &Graph, sizes: &[u64], out: &mut P) -> An
     )
 }
 
-// The answer where the work is done and these lines were printed, or one wasn't.
-fn reported(printed: Result<(), PrintErr>, report: Report) -> Answer
+/// The answer where the work is done and these lines were printed, or one wasn't.
+pub fn reported(printed: Result<(), PrintErr>, report: Report) -> Answer
     ensures { result ≡ reported_of printed report }
 {
     match printed {

@@ -1,12 +1,12 @@
 ghost use Rattle.std.specs.Prelude.{◌≡◌, map, string_bytes, IfOk, IsErrOf, None, Some};
-ghost use Rattle.image_jobs.specs.Asked.{asked};
+ghost use Rattle.image_jobs.specs.Asked.{IsSound, asked, names_of};
 
-use base_fields::Name;
-use job_words::{Job, WordFault, read_words};
+use base_fields::{Name, NoMemory};
+use job_words::{Job, WordFault, jobs_are_in_range, read_words};
 use std::alloc::Global;
 
-/// A build that the words ask for: its configuration, and the paths of its inputs and of its outputs, where they are
-/// given. A path of the words goes before that of the configuration.
+/// A configuration that the words name, and the paths of its inputs and of its outputs, where they are given. A path of
+/// the words goes before that of the configuration.
 #[derive(Debug, Drop)]
 pub struct Request {
     pub conf: Name,
@@ -14,27 +14,97 @@ pub struct Request {
     pub output: Option<Name>,
 }
 
+/// A map that the words ask for: of the image of that name in a configuration, in blocks of `block` bytes, to be written
+/// to the file `out`.
+#[derive(Debug, Drop)]
+pub struct MapRequest {
+    pub request: Request,
+    pub image: Name,
+    pub out: Name,
+    pub block: u32,
+}
+
 /// A job that `run` has an arm for.
 #[derive(Debug, Drop)]
 pub enum Command {
+    /// Makes the images of a configuration.
     Build(Request),
+    /// Writes the block map of one of them.
+    Map(MapRequest),
+    /// Compares a target with the digests of a map.
+    Verify {
+        map: Name,
+        target: Name,
+    },
+    /// Lists what stands in a file.
+    List {
+        image: Name,
+    },
+}
+
+/// The names under which a command attaches the devices that it uses.
+#[derive(Debug, Drop)]
+pub struct DeviceNames {
+    pub target: Option<Name>,
+    pub journal: Option<Name>,
 }
 
 /// The command that the words ask for. A job that `run` has no arm for yet is as no words.
 pub fn asked(alloc: Global, words: &Vec<String>) -> Result<Command, WordFault>
     ensures ok { IfOk result (λ command. asked (map string_bytes words.now.items) ≡ Some command) }
+    ensures sound { IfOk result IsSound }
     ensures usage { IsErrOf result WordFault.Usage → asked (map string_bytes words.now.items) ≡ None }
 {
+    jobs_are_in_range();
     match read_words(alloc, words)? {
         Job::Build {
             conf,
             inputpath,
             outputpath,
-        } => Ok(Command::Build(Request {
+        } => Ok(Command::Build(request_of(conf, inputpath, outputpath))),
+        Job::Map {
             conf,
-            input: inputpath,
-            output: outputpath,
+            image,
+            out,
+            block,
+            inputpath,
+            outputpath,
+        } => Ok(Command::Map(MapRequest {
+            request: request_of(conf, inputpath, outputpath),
+            image,
+            out,
+            block,
         })),
+        Job::Verify { map, target } => Ok(Command::Verify { map, target }),
+        Job::List { image } => Ok(Command::List { image }),
         _ => Err(WordFault::Usage),
+    }
+}
+
+fn request_of(conf: Name, input: Option<Name>, output: Option<Name>) -> Request
+    ensures { result ≡ record { conf = conf; input = input; output = output } }
+{
+    Request {
+        conf,
+        input,
+        output,
+    }
+}
+
+/// The names under which the command of these words attaches the devices that it uses; none where they are no command.
+/// A bench that has other names isn't handed to [`run`](crate::run).
+pub fn device_names(alloc: Global, words: &Vec<String>) -> Result<DeviceNames, NoMemory>
+    ensures { IfOk result (λ names. names ≡ names_of (asked (map string_bytes words.now.items))) }
+{
+    match asked(alloc, words) {
+        Ok(Command::Verify { map: _, target }) => Ok(DeviceNames {
+            target: Some(target),
+            journal: None,
+        }),
+        Ok(_) | Err(WordFault::Usage) => Ok(DeviceNames {
+            target: None,
+            journal: None,
+        }),
+        Err(WordFault::NoMemory) => Err(NoMemory),
     }
 }

@@ -1,44 +1,68 @@
 ghost use Rattle.std.specs.Prelude.{◌≤◌, [], ◌∷◌, map, string_bytes};
 ghost use Rattle.outside.specs.Counts.{NoneFell};
 ghost use Rattle.answer_lines.specs.Answer.{error_text};
+ghost use Rattle.bench.specs.Disk.{Looked, StillLeaves};
+ghost use Rattle.bench.specs.Meter.{CostsOn};
+ghost use Rattle.bench.specs.declared.Dev.{Dev};
 ghost use Rattle.job_stages.specs.Printing.{Prints};
+ghost use Rattle.image_jobs.specs.Asked.{asked, names_of};
+ghost use Rattle.image_jobs.specs.Devices.{AreAttached, MayAttach};
 ghost use Rattle.image_jobs.specs.Printed.{IsRefusal};
-ghost use Rattle.image_jobs.specs.Asked.{asked};
-ghost use Rattle.image_jobs.specs.Run.{Answers, Changes, Completes, HasCause, HasMade, IsUsage, lines_of};
+ghost use Rattle.image_jobs.specs.Run.{Answers, Changes, Completes, HasBound, HasCause, HasCompared, HasMade, IsUsage, lines_of, work_of};
 
 use crate::build_arm::run_build;
+use crate::list_arm::run_list;
+use crate::map_arm::run_map;
 use crate::printing::refuse;
 use crate::request::{Command, asked};
+use crate::verify_arm::run_verify;
 use answer_lines::Answer;
+use bench::Bench;
 use conf_sections::Vars;
 use job_words::WordFault;
 use outside::{Files, Printer};
 use std::alloc::Global;
 
-/// Does what the words say, over these files, and prints its lines: `build CONF` makes the images of the
-/// configuration CONF, whose variables are these. Commands that aren't there yet are no words. Each clause goes by
-/// what the words ask for; the plan is a function of that, of the variables and of the files as they are told.
-pub fn run<F: Files, P: Printer>(
+/// Does what the words say, over these files and devices, and prints its lines: `build CONF` makes the images of the
+/// configuration CONF, whose variables are these; `map CONF IMAGE OUT` writes the block map of one of them; `verify MAP
+/// TARGET` compares a target with a map; `list IMAGE` shows what stands in a file. Commands that aren't there yet are no
+/// words. Each clause goes by what the words ask for; what is wanted is a function of that, of the variables and of the
+/// files as they are told.
+pub fn run<F: Files, B: Bench, P: Printer>(
     alloc: Global,
     words: &Vec<String>,
     vars: &Vars,
     files: &mut F,
+    bench: &mut B,
     out: &mut P,
 ) -> Answer
+    // Each device that the command uses has no name, or the word's.
+    requires names { MayAttach (names_of (asked (map string_bytes words.now.items))) (B.meter bench.old) }
+
     ensures usage { IsUsage (asked (map string_bytes words.now.items)) result }
 
-    // All images are built, or the first refusal is answered, or a counted fault, or a want of memory.
+    // The work is done, or the first refusal is answered, or a counted fault, or a want of memory.
     ensures answers { F.told → Answers (asked (map string_bytes words.now.items)) vars.now (F.file files.old) (F.file files.new) result }
-    ensures cause { HasCause (asked (map string_bytes words.now.items)) (F.counts files.old) (F.counts files.new) (P.faults out.old) (P.faults out.new) result }
+    ensures compared { F.told → B.told → HasCompared (asked (map string_bytes words.now.items)) (F.file files.old) ((B.disk bench.old).reads Dev.Target) result }
+    ensures cause { HasCause (asked (map string_bytes words.now.items)) (F.counts files.old) (F.counts files.new) (B.meter bench.old) (B.meter bench.new) (P.faults out.old) (P.faults out.new) result }
     // Where no call and no line failed, the work is done, or what is wanted is refused, or memory is.
-    ensures complete { F.told → Completes (asked (map string_bytes words.now.items)) vars.now (F.file files.old) (F.file files.new) (F.counts files.old) (F.counts files.new) (P.faults out.old) (P.faults out.new) result }
+    ensures complete { F.told → Completes (asked (map string_bytes words.now.items)) vars.now (F.file files.old) (F.file files.new) (F.counts files.old) (F.counts files.new) (P.faults out.old) (P.faults out.new) (B.meter bench.old) (B.meter bench.new) result }
     ensures none_fell { NoneFell (F.counts files.old) (F.counts files.new) }
     ensures none_fell_lines { P.faults out.old ≤ P.faults out.new }
 
     // Where the work is done, each byte of each image is the one that its layout names, parts and tables lie apart, and the
-    // tables read back. Whatever is answered, every name but those of the images is as before.
-    ensures built { F.told → HasMade (asked (map string_bytes words.now.items)) vars.now (F.file files.old) (F.file files.new) result }
+    // tables read back; a map is that of its image. Whatever is answered, every name but those of the images, or of the map,
+    // is as before.
+    ensures made { F.told → HasMade (asked (map string_bytes words.now.items)) vars.now (F.file files.old) (F.file files.new) result }
     ensures changes { F.told → Changes (asked (map string_bytes words.now.items)) vars.now (F.file files.old) (F.file files.new) }
+
+    // Whatever is answered, all that the devices read and may leave is as before; each is attached under its word, or as
+    // before.
+    ensures looked { Looked (B.disk bench.old) (B.disk bench.new) }
+    ensures stays { (each : Dev) → StillLeaves each (B.disk bench.old) (B.disk bench.new) }
+    ensures attached { AreAttached (names_of (asked (map string_bytes words.now.items))) (B.meter bench.old) (B.meter bench.new) }
+    ensures bill { F.told → CostsOn Dev.Target (work_of (asked (map string_bytes words.now.items)) (F.file files.old)) (B.meter bench.old) (B.meter bench.new) }
+    ensures bounded { HasBound (asked (map string_bytes words.now.items)) (B.meter bench.old) (B.meter bench.new) }
 
     ensures prints { F.told → Prints (lines_of (asked (map string_bytes words.now.items)) vars.now (F.file files.old) (F.file files.new) result) (P.lines out.old) (P.lines out.new) (P.faults out.old) (P.faults out.new) }
     // The line of a refusal is a matter of the answer alone.
@@ -51,5 +75,8 @@ pub fn run<F: Files, P: Printer>(
     };
     match command {
         Command::Build(request) => run_build(alloc, request, vars, files, out),
+        Command::Map(mapping) => run_map(alloc, mapping, vars, files, out),
+        Command::Verify { map, target } => run_verify(alloc, map, target, files, bench, out),
+        Command::List { image } => run_list(alloc, image, files, out),
     }
 }

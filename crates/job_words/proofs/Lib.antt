@@ -3,3 +3,4 @@ pub mod OnLiterals
 pub mod Pairs
 pub mod Reading
 pub mod Taken
+pub mod Ranges

@@ -2,3 +2,4 @@
 pub mod Arguments
 pub mod Verbs
 pub mod Jobs
+pub mod Ranges

@@ -10,12 +10,14 @@ ghost use Rattle.job_words.specs.Jobs.{Reads, job_by, job_of};
 mod arguments;
 mod given;
 mod jobs;
+mod laws;
 mod numbers;
 mod places;
 mod values;
 mod verbs;
 
 pub use jobs::{Job, WordFault};
+pub use laws::jobs_are_in_range;
 use std::alloc::Global;
 use verbs::Verb;
 

@@ -1,8 +1,11 @@
 //! The two devices of a scenario.
+ghost use Rattle.std.specs.Prelude.{◌≡◌, ℕ, List, OnOk, Some};
 ghost use Rattle.bench.specs.declared.Dev.TheVariants.{Journal, Target};
 ghost use Rattle.bench.specs.Meter.{IsAttached, SameNames};
+ghost use Rattle.scenario_devices.specs.Naming.{IsKept, IsNamedAt};
 
 use anyhow::{Result, bail};
+use base_fields::Name;
 use bench::{Bench, BenchErr, Dev};
 use bench_devices::MemBench;
 use std::alloc::Global;
@@ -10,17 +13,37 @@ use std::alloc::Global;
 /// A target and a journal in memory, both attached.
 #[derive(Debug, Drop)]
 pub struct Devices {
-    /// The bench itself. A call that leaves both devices attached may be made on it.
+    /// The bench itself. A call that leaves both devices attached, under no other names, may be made on it.
     pub bench: MemBench,
+    /// The only name that the target may have; it has none where there is none.
+    pub target_word: Option<Name>,
+    /// The same of the journal.
+    pub journal_word: Option<Name>,
     pub ghost target: { IsAttached (⟦<MemBench as Bench>⟧.meter bench) Target },
     pub ghost journal: { IsAttached (⟦<MemBench as Bench>⟧.meter bench) Journal },
+    pub ghost target_named: { IsNamedAt Target target_word (⟦<MemBench as Bench>⟧.meter bench) },
+    pub ghost journal_named: { IsNamedAt Journal journal_word (⟦<MemBench as Bench>⟧.meter bench) },
 }
 
 impl Devices {
     /// The devices with these bytes, and room for the record of their calls.
     pub fn new(alloc: Global, target: &[u8], journal: &[u8], room: usize) -> Result<Devices> {
         let bench = MemBench::new(alloc, target, journal, room)?;
-        Ok(Devices { bench })
+        Ok(Devices {
+            bench,
+            target_word: None,
+            journal_word: None,
+        })
+    }
+
+    /// Keeps the words under which a command attaches its devices. A device that may have another name is refused.
+    pub fn keep_words(&mut self, target: Option<Name>, journal: Option<Name>) -> Result<()>
+        ensures target { OnOk result (IsKept target self.new.target_word) }
+        ensures journal { OnOk result (IsKept journal self.new.journal_word) }
+    {
+        keep_word(&mut self.target_word, target)?;
+        keep_word(&mut self.journal_word, journal)?;
+        Ok(())
     }
 
     /// Lets the call of a number fail, counted from the making of the devices.
@@ -50,9 +73,13 @@ impl Devices {
 
     /// The devices as a stop leaves them that keeps these of the pending writes.
     pub fn leave(self, alloc: Global, keep: &[bool]) -> Result<Devices> {
-        let Devices { bench } = self;
+        let Devices { bench, .. } = self;
         let left = bench.leave(alloc, keep)?;
-        Ok(Devices { bench: left })
+        Ok(Devices {
+            bench: left,
+            target_word: None,
+            journal_word: None,
+        })
     }
 
     /// The length of a device.
@@ -90,6 +117,24 @@ impl Devices {
             Dev::Target => self.bench.sync(Dev::Target),
             Dev::Journal => self.bench.sync(Dev::Journal),
         }
+    }
+}
+
+// Keeps the word of a command, where it has one and no other is kept.
+fn keep_word(kept: &mut Option<Name>, given: Option<Name>) -> Result<()>
+    ensures given { OnOk result (IsKept given kept.new) }
+    ensures stays { (word : List ℕ) → kept.old ≡ Some word → kept.new ≡ Some word }
+{
+    let Some(given) = given else {
+        return Ok(());
+    };
+    match kept {
+        None => {
+            *kept = Some(given);
+            Ok(())
+        }
+        Some(word) if word.text() == given.text() => Ok(()),
+        Some(_) => bail!("a device has another name"),
     }
 }
 

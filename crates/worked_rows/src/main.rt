@@ -4,6 +4,7 @@
 
 mod cut_files;
 mod playing;
+mod run_devices;
 mod run_steps;
 mod steps;
 mod world;

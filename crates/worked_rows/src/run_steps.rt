@@ -1,12 +1,14 @@
 //! Steps that run commands, and look at their words and lines.
 use crate::cut_files::CutFiles;
+use crate::run_devices::run_on;
+use crate::world::World;
 use answer_lines::Answer;
-use anyhow::Result;
+use anyhow::{Result, bail};
 use file_names::full_name;
-use image_jobs::run;
 use job_words::{WordFault, read_words};
 use outside::{MemPrinter, SureFiles};
 use scenario_answers::{printer_of, put_kept};
+use scenario_devices::Devices;
 use scenario_words::{Arguments, Setting};
 use std::alloc::Global;
 
@@ -71,50 +73,90 @@ impl RunStep {
     }
 
     /// Does it, and says what came of it.
-    pub fn play(self, setting: &mut Setting) -> Result<String> {
+    pub fn play(self, world: &mut World) -> Result<String> {
+        let alloc = world.setting.alloc;
         match self {
-            RunStep::Run { words } => run_words(setting, &words),
-            RunStep::Sure { name, words } => run_sure(setting, &name, &words),
-            RunStep::Cut { len, end, words } => run_cut(setting, CutFiles::new(len, end), &words),
-            RunStep::Words { words } => job_of(setting.alloc, &words),
-            RunStep::FullName { path, name } => show_full_name(setting.alloc, &path, &name),
+            RunStep::Run { words } => run_words(world, &words),
+            RunStep::Sure { name, words } => run_sure(world, &name, &words),
+            RunStep::Cut { len, end, words } => run_cut(world, CutFiles::new(len, end), &words),
+            RunStep::Words { words } => job_of(alloc, &words),
+            RunStep::FullName { path, name } => show_full_name(alloc, &path, &name),
         }
     }
 }
 
-/// Runs a command, and shows its status, its answer and its lines.
-fn run_words(setting: &mut Setting, words: &Vec<String>) -> Result<String> {
+/// Runs a command on the devices, and shows its status, its answer and its lines.
+fn run_words(world: &mut World, words: &Vec<String>) -> Result<String> {
+    let World {
+        setting, devices, ..
+    } = world;
+    let devices = devices_of(setting.alloc, devices)?;
     let mut printer = printer_of(setting, ROOM)?;
     let answer = if setting.trickles {
-        run_trickled(setting, words, &mut printer)
+        run_trickled(setting, words, devices, &mut printer)?
     } else {
-        run(
+        run_on(
             setting.alloc,
             words,
             &setting.vars,
             &mut setting.files,
+            devices,
             &mut printer,
-        )
+        )?
     };
     show_run(setting.alloc, &answer, &printer)
 }
 
-fn run_trickled(setting: &mut Setting, words: &Vec<String>, printer: &mut MemPrinter) -> Answer {
+/// The devices of a scenario, which are empty where none were made.
+fn devices_of(alloc: Global, devices: &mut Option<Devices>) -> Result<&mut Devices> {
+    if devices.is_none() {
+        *devices = Some(Devices::new(alloc, &[], &[], ROOM)?);
+    }
+    match devices {
+        Some(devices) => Ok(devices),
+        None => bail!("no bench"),
+    }
+}
+
+fn run_trickled(
+    setting: &mut Setting,
+    words: &Vec<String>,
+    devices: &mut Devices,
+    printer: &mut MemPrinter,
+) -> Result<Answer> {
     let mut files = setting.take_trickled();
-    let answer = run(setting.alloc, words, &setting.vars, &mut files, printer);
+    let answer = run_on(
+        setting.alloc,
+        words,
+        &setting.vars,
+        &mut files,
+        devices,
+        printer,
+    );
     setting.put_back(files);
     answer
 }
 
 /// The same over files of which no call fails. The one of this name is taken of them.
-fn run_sure(setting: &mut Setting, name: &str, words: &Vec<String>) -> Result<String> {
+fn run_sure(world: &mut World, name: &str, words: &Vec<String>) -> Result<String> {
+    let World {
+        setting, devices, ..
+    } = world;
     let alloc = setting.alloc;
+    let devices = devices_of(alloc, devices)?;
     let mut printer = printer_of(setting, ROOM)?;
     let mut files = SureFiles::new(alloc);
     for name in setting.files.names()? {
         files.put(&name, setting.files.bytes(&name).unwrap_or(&[]))?;
     }
-    let answer = run(alloc, words, &setting.vars, &mut files, &mut printer);
+    let answer = run_on(
+        alloc,
+        words,
+        &setting.vars,
+        &mut files,
+        devices,
+        &mut printer,
+    )?;
     if let Some(bytes) = files.bytes(name) {
         setting.files.put(name, bytes)?;
     }
@@ -122,10 +164,21 @@ fn run_sure(setting: &mut Setting, name: &str, words: &Vec<String>) -> Result<St
 }
 
 /// The same over files that lie.
-fn run_cut(setting: &mut Setting, mut files: CutFiles, words: &Vec<String>) -> Result<String> {
+fn run_cut(world: &mut World, mut files: CutFiles, words: &Vec<String>) -> Result<String> {
+    let World {
+        setting, devices, ..
+    } = world;
     let alloc = setting.alloc;
+    let devices = devices_of(alloc, devices)?;
     let mut printer = printer_of(setting, ROOM)?;
-    let answer = run(alloc, words, &setting.vars, &mut files, &mut printer);
+    let answer = run_on(
+        alloc,
+        words,
+        &setting.vars,
+        &mut files,
+        devices,
+        &mut printer,
+    )?;
     show_run(alloc, &answer, &printer)
 }
 

@@ -8,6 +8,7 @@ use scenario_devices::BenchStep;
 use scenario_files::{CallStep, FileStep};
 use scenario_journals::JournalStep;
 use scenario_layouts::LayoutStep;
+use scenario_maps::MapStep;
 use scenario_tables::{PoolStep, SlotStep, SparseStep, TableStep, ValueStep};
 use scenario_texts::TextStep;
 use scenario_words::Arguments;
@@ -32,6 +33,8 @@ pub enum Step {
     Layouts(LayoutStep),
     /// The cover.
     Cover(CoverStep),
+    /// Texts of block maps.
+    Maps(MapStep),
     /// Sparse files.
     Sparse(SparseStep),
     /// Partition tables.
@@ -71,11 +74,12 @@ impl Step {
             Step::New(title) => begin(world, &title),
             Step::Files(step) => step.play(&mut world.setting),
             Step::Calls(step) => step.play(&mut world.setting),
-            Step::Run(step) => step.play(&mut world.setting),
+            Step::Run(step) => step.play(world),
             Step::Answers(step) => step.play(&mut world.setting),
             Step::Texts(step) => step.play(&mut world.setting),
             Step::Layouts(step) => step.play(&mut world.setting),
             Step::Cover(step) => step.play(alloc, &mut world.cover),
+            Step::Maps(step) => step.play(&mut world.setting),
             Step::Sparse(step) => step.play(&mut world.setting),
             Step::Tables(step) => step.play(&mut world.setting),
             Step::Slots(step) => step.play(&mut world.setting),
@@ -114,6 +118,9 @@ fn read_run(alloc: Global, verb: &str, words: &mut Arguments) -> Result<Option<S
 fn read_value(alloc: Global, verb: &str, words: &mut Arguments) -> Result<Option<Step>> {
     if let Some(step) = CoverStep::read(alloc, verb, words)? {
         return Ok(Some(Step::Cover(step)));
+    }
+    if let Some(step) = MapStep::read(verb, words)? {
+        return Ok(Some(Step::Maps(step)));
     }
     if let Some(step) = SparseStep::read(verb, words)? {
         return Ok(Some(Step::Sparse(step)));

@@ -1,0 +1,14 @@
+-- lemmas
+mod Bytes
+mod Digests
+mod Elements
+mod Ending
+mod Fronts
+mod Heads
+mod Lines
+mod RangeLines
+mod Reading
+mod Rising
+mod States
+mod TheLaw
+mod Values

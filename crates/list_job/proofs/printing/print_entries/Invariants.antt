@@ -1,0 +1,10 @@
+use Rattle.std.proofs.Common.{Ok, take}
+use Rattle.list_job.specs.Printed.{PrintsTurn, entry_lines}
+use Rattle.list_job.proofs.printing.print_entries.Given as goal
+
+-- so many of them are printed
+abbrev pub invariant-loop-place : goal.invariant-loop-place
+invariant-loop-place g l =
+    let printer = g.P.Printer in
+    PrintsTurn (take l.place (entry_lines l.slots l.entries)) (printer.lines l.fn.out) (printer.lines l.out)
+    (printer.faults l.fn.out) (printer.faults l.out) (Ok tt)

@@ -1,0 +1,6 @@
+-- lemmas
+mod Chosen
+mod Digests
+mod Measures
+mod Refusals
+mod Whole

@@ -1,0 +1,3 @@
+-- definitions that contracts cite
+pub use Rattle.bench.specs.Meter
+pub mod Naming

@@ -1,0 +1,13 @@
+-- lemmas
+mod Backups
+mod Built
+mod Chains
+mod Guid
+mod Halves
+mod Headers
+mod Images
+mod Layouts
+mod Parts
+mod Recognised
+mod Tables
+mod Used

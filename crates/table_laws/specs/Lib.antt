@@ -1,0 +1,4 @@
+-- definitions that contracts cite
+pub mod Built
+pub mod Laws
+pub mod ReadAs

@@ -1,0 +1,4 @@
+-- definitions that contracts cite
+pub mod Answers
+pub mod Devices
+pub mod Faults
