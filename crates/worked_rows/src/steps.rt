@@ -3,6 +3,7 @@ use crate::run_steps::RunStep;
 use crate::world::World;
 use anyhow::{Result, bail};
 use scenario_answers::AnswerStep;
+use scenario_copies::CopyStep;
 use scenario_covers::CoverStep;
 use scenario_devices::BenchStep;
 use scenario_files::{CallStep, FileStep};
@@ -49,6 +50,8 @@ pub enum Step {
     Bench(BenchStep),
     /// The journal on the bench.
     Journal(JournalStep),
+    /// The copier on the bench.
+    Copies(CopyStep),
 }
 
 impl Step {
@@ -87,6 +90,7 @@ impl Step {
             Step::Pool(step) => step.play(alloc),
             Step::Bench(step) => step.play(&world.setting, &mut world.devices),
             Step::Journal(step) => step.play(alloc, &mut world.devices, &mut world.job),
+            Step::Copies(step) => step.play(&mut world.setting, &mut world.devices),
         }
     }
 }
@@ -142,6 +146,9 @@ fn read_value(alloc: Global, verb: &str, words: &mut Arguments) -> Result<Option
     }
     if let Some(step) = JournalStep::read(alloc, verb, words)? {
         return Ok(Some(Step::Journal(step)));
+    }
+    if let Some(step) = CopyStep::read(alloc, verb, words)? {
+        return Ok(Some(Step::Copies(step)));
     }
     Ok(None)
 }

@@ -1,0 +1,2 @@
+-- definitions that contracts cite
+pub mod Ready
