@@ -64,6 +64,10 @@ abbrev pub StaysNear : CopyJob → Progress → Disk → Disk → Type 0
 StaysNear job (Ok course) old new = MovingIsNear job course old new
 StaysNear job (Err fault) old new = Unit {0}
 
+-- the target reads as before
+abbrev pub SameTarget : Disk → Disk → Type 0
+SameTarget old new = new.reads Target ≡ old.reads Target
+
 -- where Done is answered every range is checked in the journal's only image, and the target is settled
 pub record IsDone (job : CopyJob) (disk : Disk) : Type 0 where
   pub checked : AreChecked job.id (disk.reads Journal)

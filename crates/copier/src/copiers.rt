@@ -19,7 +19,7 @@ ghost use Rattle.copier.specs.Ends.{KeepEnds, StepEnds};
 ghost use Rattle.copier.specs.Faults.{IsOpenFault, IsPutFault, IsUnwritten};
 ghost use Rattle.copier.specs.Beginnings.{HasBegun, OpensAlong, OpensFitting};
 ghost use Rattle.copier.specs.Pools.{HasBuffer, OpensPool, UsesSlot};
-ghost use Rattle.copier.specs.Runs.{ClearsTheRange, GoesAlong, HasKeepCause, HasStepCause, KeepsWindow, PutGoesAlong, PutKeepsSince, PutKeepsWindow, ShowsDone, StaysNear, StepGoesAlong, StepKeepsSince, StepKeepsWindow};
+ghost use Rattle.copier.specs.Runs.{ClearsTheRange, GoesAlong, HasKeepCause, HasStepCause, KeepsWindow, PutGoesAlong, PutKeepsSince, PutKeepsWindow, SameTarget, ShowsDone, StaysNear, StepGoesAlong, StepKeepsSince, StepKeepsWindow};
 ghost use Rattle.copier.specs.Steps.{CostsFor, GoesTo, IsForNext, IsForUnit, IsIdleNeed, IsUnitNeed, LeavesFewer, ReadsSource};
 
 use crate::keeping::{keep_next, next_in};
@@ -55,6 +55,9 @@ impl<'a> Model for Copier<'a> {
 impl<'a> Copier<'a> {
     /// Opens a copy: waits until the target is on its disk, and opens the journal, in the mode `Fresh` with the job's
     /// window. All memory of the copy is taken before the first write. After a refusal the buffer was given back.
+    ///
+    /// Refuses with `TargetTooSmall`, `DeviceFault` or `NoMemory`, in the mode `Fresh` with `JournalHeld`, and in the
+    /// mode `Again` with `NoJournal` or `JournalForeign`.
     pub fn open<B: Bench>(
         alloc: Global,
         bench: &mut B,
@@ -103,6 +106,8 @@ impl<'a> Copier<'a> {
 
     /// Does what is next: reads a unit from the source and writes it, passes one that is recorded, or ends a range.
     /// After a refusal it answers that same refusal from then on and calls nothing. Takes no memory.
+    ///
+    /// Refuses with `Missing`, `SourceShort` or `FileFault` of the source, `DeviceFault` or `RangeDiffers`.
     pub fn step<F: Files, B: Bench>(
         &mut self,
         files: &mut F,
@@ -117,6 +122,7 @@ impl<'a> Copier<'a> {
         ensures lease { self.new.lease ≡ self.old.lease }
         ensures since { B.told → StepKeepsSince F.told (F.file files.old self.old.job.source) self.old.job self.old.progress (B.disk bench.old) (B.disk bench.new) }
         ensures own { B.told → KeepsOwn self.old.job.id (B.disk bench.old) (B.disk bench.new) }
+        ensures same_target { B.told → ¬ IsUnitNeed (next_of self.old.job self.old.progress) → SameTarget (B.disk bench.old) (B.disk bench.new) }
         ensures fits { B.told → Fits self.new.job self.new.progress (B.disk bench.new) }
         ensures window { B.told → OnOk result (StepKeepsWindow F.told (F.file files.old self.old.job.source) self.old.job self.old.progress self.new.progress (B.disk bench.old) (B.disk bench.new)) }
         ensures narrow { B.told → StaysNear self.old.job self.old.progress (B.disk bench.old) (B.disk bench.new) }
@@ -148,7 +154,8 @@ impl<'a> Copier<'a> {
         next_in(self.job, &self.progress)
     }
 
-    /// Writes unit `k`, which is next, with these bytes, of which there are as many as it has. Takes no memory.
+    /// Writes unit `k`, which is next, with these bytes, of which there are as many as it has. Takes no memory. Refuses
+    /// with `DeviceFault` alone.
     pub fn put<B: Bench>(&mut self, bench: &mut B, k: u64, bytes: &[u8]) -> Result<Step, CopyFault>
         requires target { IsAttached (B.meter bench.old) Dev.Target }
         requires journal { IsAttached (B.meter bench.old) Dev.Journal }
@@ -173,7 +180,8 @@ impl<'a> Copier<'a> {
         put_next(bench, self.job, &mut self.progress, k, bytes)
     }
 
-    /// Does what is next, where no unit is to be written: passes one that is recorded, or ends a range. Takes no memory.
+    /// Does what is next, where no unit is to be written: passes one that is recorded, ends a range, or answers the kept
+    /// refusal again. Takes no memory. Refuses with `DeviceFault` or `RangeDiffers`.
     pub fn keep<B: Bench>(&mut self, bench: &mut B, pool: &mut Pool) -> Result<Step, CopyFault>
         requires target { IsAttached (B.meter bench.old) Dev.Target }
         requires journal { IsAttached (B.meter bench.old) Dev.Journal }
@@ -184,6 +192,7 @@ impl<'a> Copier<'a> {
         ensures lease { self.new.lease ≡ self.old.lease }
         ensures since { B.told → MovingKeepsSince self.old.job (B.disk bench.old) (B.disk bench.new) }
         ensures own { B.told → KeepsOwn self.old.job.id (B.disk bench.old) (B.disk bench.new) }
+        ensures same_target { B.told → SameTarget (B.disk bench.old) (B.disk bench.new) }
         ensures fits { B.told → Fits self.new.job self.new.progress (B.disk bench.new) }
         ensures window { B.told → OnOk result (KeepsWindow self.old.job self.old.progress self.new.progress (B.disk bench.old) (B.disk bench.new)) }
         ensures narrow { B.told → StaysNear self.old.job self.old.progress (B.disk bench.old) (B.disk bench.new) }

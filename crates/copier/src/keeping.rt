@@ -6,7 +6,7 @@ ghost use Rattle.copier_moves.specs.Moves.{MovingKeepsSince};
 ghost use Rattle.copier_course.specs.declared.jobs.Need.{Need};
 ghost use Rattle.copier.specs.Copiers.{Fits, IsSound, next_of};
 ghost use Rattle.copier.specs.Ends.{KeepEnds};
-ghost use Rattle.copier.specs.Runs.{ClearsTheRange, GoesAlong, HasKeepCause, KeepsWindow, ShowsDone, StaysNear};
+ghost use Rattle.copier.specs.Runs.{ClearsTheRange, GoesAlong, HasKeepCause, KeepsWindow, SameTarget, ShowsDone, StaysNear};
 ghost use Rattle.copier.specs.Steps.{CostsFor, GoesTo, IsForNext, IsIdleNeed, IsUnitNeed, LeavesFewer};
 
 use crate::putting::refuse;
@@ -42,6 +42,7 @@ pub(crate) fn keep_next<B: Bench>(
     ensures sound { IsSound job.now progress.new }
     ensures since { B.told → MovingKeepsSince job.now (B.disk bench.old) (B.disk bench.new) }
     ensures own { B.told → KeepsOwn job.now.id (B.disk bench.old) (B.disk bench.new) }
+    ensures same_target { B.told → SameTarget (B.disk bench.old) (B.disk bench.new) }
     ensures fits { B.told → Fits job.now progress.new (B.disk bench.new) }
     ensures window { B.told → OnOk result (KeepsWindow job.now progress.old progress.new (B.disk bench.old) (B.disk bench.new)) }
     ensures narrow { B.told → StaysNear job.now progress.old (B.disk bench.old) (B.disk bench.new) }
@@ -94,6 +95,7 @@ fn pass_next<B: Bench>(
     ensures sound { IsSound job.now progress.new }
     ensures since { B.told → MovingKeepsSince job.now (B.disk bench.old) (B.disk bench.new) }
     ensures own { B.told → KeepsOwn job.now.id (B.disk bench.old) (B.disk bench.new) }
+    ensures same_target { B.told → SameTarget (B.disk bench.old) (B.disk bench.new) }
     ensures fits { B.told → Fits job.now progress.new (B.disk bench.new) }
     ensures window { B.told → OnOk result (KeepsWindow job.now progress.old progress.new (B.disk bench.old) (B.disk bench.new)) }
     ensures narrow { B.told → StaysNear job.now progress.old (B.disk bench.old) (B.disk bench.new) }
@@ -130,6 +132,7 @@ fn end_next<B: Bench>(
     ensures sound { IsSound job.now progress.new }
     ensures since { B.told → MovingKeepsSince job.now (B.disk bench.old) (B.disk bench.new) }
     ensures own { B.told → KeepsOwn job.now.id (B.disk bench.old) (B.disk bench.new) }
+    ensures same_target { B.told → SameTarget (B.disk bench.old) (B.disk bench.new) }
     ensures fits { B.told → Fits job.now progress.new (B.disk bench.new) }
     ensures window { B.told → OnOk result (KeepsWindow job.now progress.old progress.new (B.disk bench.old) (B.disk bench.new)) }
     ensures narrow { B.told → StaysNear job.now progress.old (B.disk bench.old) (B.disk bench.new) }

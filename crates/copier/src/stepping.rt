@@ -6,7 +6,7 @@ ghost use Rattle.copy_stages.specs.Stages.{KeepsOwn};
 ghost use Rattle.copier_course.specs.declared.jobs.Need.{Need};
 ghost use Rattle.copier.specs.Copiers.{Fits, IsSound, next_of};
 ghost use Rattle.copier.specs.Ends.{StepEnds};
-ghost use Rattle.copier.specs.Runs.{ClearsTheRange, HasStepCause, ShowsDone, StaysNear, StepGoesAlong, StepKeepsSince, StepKeepsWindow};
+ghost use Rattle.copier.specs.Runs.{ClearsTheRange, HasStepCause, SameTarget, ShowsDone, StaysNear, StepGoesAlong, StepKeepsSince, StepKeepsWindow};
 ghost use Rattle.copier.specs.Steps.{CostsFor, GoesTo, IsForNext, IsIdleNeed, IsUnitNeed, LeavesFewer, ReadsSource};
 
 use crate::keeping::{keep_next, next_in};
@@ -33,6 +33,7 @@ pub(crate) fn step_next<F: Files, B: Bench>(
     ensures sound { IsSound job.now progress.new }
     ensures since { B.told → StepKeepsSince F.told (F.file files.old job.now.source) job.now progress.old (B.disk bench.old) (B.disk bench.new) }
     ensures own { B.told → KeepsOwn job.now.id (B.disk bench.old) (B.disk bench.new) }
+    ensures same_target { B.told → ¬ IsUnitNeed (next_of job.now progress.old) → SameTarget (B.disk bench.old) (B.disk bench.new) }
     ensures fits { B.told → Fits job.now progress.new (B.disk bench.new) }
     ensures window { B.told → OnOk result (StepKeepsWindow F.told (F.file files.old job.now.source) job.now progress.old progress.new (B.disk bench.old) (B.disk bench.new)) }
     ensures narrow { B.told → StaysNear job.now progress.old (B.disk bench.old) (B.disk bench.new) }

@@ -42,7 +42,6 @@ fn refused(answer: &Answer, printer: &mut HostPrinter<HostRuntime>) -> u8 {
     answer.status()
 }
 
-#[tactic(auto, using(crate::proofs::Names::may_attach))]
 fn status(rt: &HostRuntime) -> Option<u8> {
     let arguments = arguments(rt)?;
     let mut files = HostFiles::new(rt.clone().ok()?);

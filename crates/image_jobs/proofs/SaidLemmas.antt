@@ -28,6 +28,7 @@ refuses_as {A} {E} wanted counted f fault got stays h (inl same) =
     either : (b : Bool) (P : Type 0) → P → MatchBool b (Unit {0}) P
     either true P p = tt
     either false P p = p
+
     at : (b : Bool) → counted fault ≡ b → MatchBool b (Unit {0}) (wanted ≡ Err fault)
         → MatchBool (is_counted (f fault)) (Unit {0}) (refused_by f wanted ≡ Err (f fault))
     at true is h = subst (λ (c : Bool). MatchBool c (Unit {0}) (refused_by f wanted ≡ Err (f fault))) (sym (stays is)) tt

@@ -131,7 +131,15 @@ fn map_conf<F: Files>(
         Ok(graph) => graph,
         Err(refusal) => return Err(refusal),
     };
-    map_graph(alloc, files, conf.texts.as_slice(), &graph, image, out, block)
+    map_graph(
+        alloc,
+        files,
+        conf.texts.as_slice(),
+        &graph,
+        image,
+        out,
+        block,
+    )
 }
 
 // The same of a graph.

@@ -32,14 +32,9 @@ pub enum Command {
     /// Writes the block map of one of them.
     Map(MapRequest),
     /// Compares a target with the digests of a map.
-    Verify {
-        map: Name,
-        target: Name,
-    },
+    Verify { map: Name, target: Name },
     /// Lists what stands in a file.
-    List {
-        image: Name,
-    },
+    List { image: Name },
 }
 
 /// The names under which a command attaches the devices that it uses.

@@ -17,12 +17,5 @@ pub fn run_on<F: Files>(
 ) -> Result<Answer> {
     let names = device_names(alloc, words)?;
     devices.keep_words(names.target, names.journal)?;
-    Ok(run(
-        alloc,
-        words,
-        vars,
-        files,
-        &mut devices.bench,
-        printer,
-    ))
+    Ok(run(alloc, words, vars, files, &mut devices.bench, printer))
 }

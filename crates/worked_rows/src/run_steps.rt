@@ -88,7 +88,9 @@ impl RunStep {
 /// Runs a command on the devices, and shows its status, its answer and its lines.
 fn run_words(world: &mut World, words: &Vec<String>) -> Result<String> {
     let World {
-        setting, devices, ..
+        setting,
+        devices,
+        ..
     } = world;
     let devices = devices_of(setting.alloc, devices)?;
     let mut printer = printer_of(setting, ROOM)?;
@@ -140,7 +142,9 @@ fn run_trickled(
 /// The same over files of which no call fails. The one of this name is taken of them.
 fn run_sure(world: &mut World, name: &str, words: &Vec<String>) -> Result<String> {
     let World {
-        setting, devices, ..
+        setting,
+        devices,
+        ..
     } = world;
     let alloc = setting.alloc;
     let devices = devices_of(alloc, devices)?;
@@ -166,7 +170,9 @@ fn run_sure(world: &mut World, name: &str, words: &Vec<String>) -> Result<String
 /// The same over files that lie.
 fn run_cut(world: &mut World, mut files: CutFiles, words: &Vec<String>) -> Result<String> {
     let World {
-        setting, devices, ..
+        setting,
+        devices,
+        ..
     } = world;
     let alloc = setting.alloc;
     let devices = devices_of(alloc, devices)?;

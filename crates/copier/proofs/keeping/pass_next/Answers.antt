@@ -1,5 +1,7 @@
 -- A unit is kept, by its move, which writes nothing.
-use Rattle.std.proofs.Common.{◌∙◌}
+use Rattle.std.proofs.Common.{ℕ, List, ap, ◌∙◌}
+use Rattle.bench.specs.declared.Dev.{Dev}
+use Rattle.bench.specs.declared.Dev.TheVariants.{Target}
 use Rattle.bench.proofs.DiskLemmas.{looked_keeps}
 use Rattle.copier.proofs.EndingLemmas.{device_ends}
 use Rattle.copier.proofs.StepLemmas.{near_of}
@@ -23,3 +25,9 @@ returns-in-Ok-keep_unit-clause-ends g c told s start along right = tt
 pub returns-in-Err-clause-ends : goal.returns-in-Err-clause-ends
 returns-in-Err-clause-ends g c told =
     device_ends c.args.job.now c.args.progress.now (g.B.Bench.disk c.args.bench.now) c.refuse.result c.in-Err.fault.dev (c.refuse.ensures.given ∙ c.from.ensures)
+
+pub returns-in-Ok-keep_unit-clause-same_target : goal.returns-in-Ok-keep_unit-clause-same_target
+returns-in-Ok-keep_unit-clause-same_target g c told = ap (λ (f : Dev → List ℕ). f Target) c.keep_unit.ensures.looked.reads
+
+pub returns-in-Err-clause-same_target : goal.returns-in-Err-clause-same_target
+returns-in-Err-clause-same_target g c told = ap (λ (f : Dev → List ℕ). f Target) c.keep_unit.ensures.looked.reads

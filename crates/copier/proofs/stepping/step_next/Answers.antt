@@ -34,3 +34,9 @@ returns-in_default-clause-source g c told k u next at = absurd (c.in_default.not
 
 pub returns-in_default-clause-ends : goal.returns-in_default-clause-ends
 returns-in_default-clause-ends g c told s start is along right = c.keep_next.ensures.ends told s start along right
+
+pub returns-in-Unit-clause-same_target : goal.returns-in-Unit-clause-same_target
+returns-in-Unit-clause-same_target g c told none = absurd (none (subst (λ (n : Need). IsUnitNeed n) (sym c.in-Unit.is ∙ c.next_in.ensures) tt))
+
+pub returns-in_default-clause-same_target : goal.returns-in_default-clause-same_target
+returns-in_default-clause-same_target g c told none = c.keep_next.ensures.same_target told

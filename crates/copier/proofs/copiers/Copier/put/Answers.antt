@@ -3,7 +3,7 @@ use Rattle.std.proofs.Common.{subst}
 use Rattle.std.specs.Prelude.{OnOk}
 use Rattle.copy_stages.specs.Stages.{KeepsOwn}
 use Rattle.copier.specs.Copiers.{Copying}
-use Rattle.copier.specs.Runs.{PutGoesAlong, PutKeepsSince, PutKeepsWindow}
+use Rattle.copier.specs.Runs.{PutGoesAlong, PutKeepsSince, PutKeepsWindow, StaysNear}
 use Rattle.copier.proofs.copiers.Copier.put.Goals as goal
 
 pub returns-clause-since : goal.returns-clause-since
@@ -29,3 +29,9 @@ returns-clause-along g c told =
     let a = g.B.Bench.disk c.args.bench.now in
     let b = g.B.Bench.disk c.put_next.new.bench in
     subst (λ (v : Copying). OnOk c.put_next.result (PutGoesAlong v.job v.progress c.put_next.new.progress c.args.k c.args.bytes.now a b)) c.self.view_is (c.put_next.ensures.along told)
+
+pub returns-clause-narrow : goal.returns-clause-narrow
+returns-clause-narrow g c told =
+    let a = g.B.Bench.disk c.args.bench.now in
+    let b = g.B.Bench.disk c.put_next.new.bench in
+    subst (λ (v : Copying). StaysNear v.job v.progress a b) c.self.view_is (c.put_next.ensures.narrow told)
