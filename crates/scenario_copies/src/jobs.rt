@@ -1,5 +1,5 @@
 //! The job of a copier.
-ghost use Rattle.std.specs.Prelude.{IfOk};
+ghost use Rattle.std.specs.Prelude.{OnOk, IfOk};
 ghost use Rattle.block_map.specs.Maps.{IsMap};
 ghost use Rattle.journal_format.specs.Journals.{IsWindow};
 ghost use Rattle.copier_course.specs.Courses.{IsCopyJob};

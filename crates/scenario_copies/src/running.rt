@@ -1,4 +1,5 @@
 //! A copier is opened, does what a scenario asks for, and is closed.
+ghost use Rattle.std.specs.Prelude.{◌≡◌};
 ghost use Rattle.bench.specs.declared.Dev.{Dev};
 ghost use Rattle.bench.specs.Meter.{IsAttached, SameNames};
 ghost use Rattle.journal_format.specs.Journals.{IsWindow};
