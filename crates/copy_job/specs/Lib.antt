@@ -1,0 +1,5 @@
+-- definitions that contracts cite
+pub mod Copies
+pub mod Devices
+pub mod Faults
+pub mod Said

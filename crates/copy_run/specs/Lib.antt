@@ -1,0 +1,3 @@
+-- definitions that contracts cite
+pub mod Faults
+pub mod Runs
