@@ -6,7 +6,8 @@ use Rattle.job_words.specs.declared.jobs.Job.{Job}
 use Rattle.job_words.specs.declared.jobs.Job.TheVariants as job
 use Rattle.image_jobs.specs.declared.request.Command.{Command}
 use Rattle.image_jobs.specs.declared.request.Command.TheVariants.{Build, Map, Verify, List as Listed}
-use Rattle.image_jobs.specs.declared.request.DeviceNames.{DeviceNames}
+use Rattle.device_commands.specs.Devices.{named}
+use Rattle.device_commands.specs.declared.names.DeviceNames.{DeviceNames}
 use Rattle.image_jobs.specs.declared.request.Request.{Request}
 
 abbrev pub request_of : List ℕ → Option (List ℕ) → Option (List ℕ) → Request
@@ -31,9 +32,6 @@ IsSound (Build request) = Unit {0}
 IsSound (Map mapping) = IsPowerBetween 512 65536 mapping.block
 IsSound (Verify map target) = Unit {0}
 IsSound (Listed image) = Unit {0}
-
-abbrev pub named : Option (List ℕ) → Option (List ℕ) → DeviceNames
-named target journal = record { target = target; journal = journal }
 
 -- the names under which a command attaches its devices
 abbrev pub names_of : Option Command → DeviceNames

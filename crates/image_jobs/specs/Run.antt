@@ -13,8 +13,8 @@ use Rattle.verify_job.specs.Devices.{IsBounded, work_said}
 use Rattle.image_jobs.specs.Build.{graph_said}
 use Rattle.image_jobs.specs.BuildArm.{BuildAnswers, BuildCause, BuildChanges, HasBuilt, IsComplete, build_lines}
 use Rattle.image_jobs.specs.ListArm.{ListAnswers, ListCause, ListCompletes, list_lines}
-use Rattle.image_jobs.specs.MapArm.{HasMapped, MapAnswers, MapCause, MapCompletes, map_lines, map_wanted}
-use Rattle.image_jobs.specs.VerifyArm.{Compares, VerifyAnswers, VerifyCause, VerifyCompletes, verify_lines}
+use Rattle.image_jobs.specs.MapArm.{HasMapped, MapAnswers, MapCause, MapCompletes, line_of, map_wanted}
+use Rattle.device_commands.specs.VerifyArm.{Compares, VerifyAnswers, VerifyCause, VerifyCompletes, verify_lines}
 use Rattle.image_jobs.specs.declared.request.Command.{Command}
 use Rattle.image_jobs.specs.declared.request.Command.TheVariants.{Build, Map, Verify, List as Listed}
 
@@ -114,6 +114,6 @@ HasBound (Some (Listed image)) old new = CostsOn Target 0 old new
 abbrev pub lines_of : Option Command → List Pair → Tree → Tree → Answer → List (List ℕ)
 lines_of None vars before after answer = error_text answer ∷ []
 lines_of (Some (Build request)) vars before after answer = build_lines (graph_said vars before request) after answer
-lines_of (Some (Map mapping)) vars before after answer = map_lines answer
+lines_of (Some (Map mapping)) vars before after answer = line_of answer
 lines_of (Some (Verify map target)) vars before after answer = verify_lines before map answer
 lines_of (Some (Listed image)) vars before after answer = list_lines before image answer

@@ -37,13 +37,6 @@ pub enum Command {
     List { image: Name },
 }
 
-/// The names under which a command attaches the devices that it uses.
-#[derive(Debug, Drop)]
-pub struct DeviceNames {
-    pub target: Option<Name>,
-    pub journal: Option<Name>,
-}
-
 /// The command that the words ask for. A job that `run` has no arm for yet is as no words.
 pub fn asked(alloc: Global, words: &Vec<String>) -> Result<Command, WordFault>
     ensures ok { IfOk result (λ command. asked (map string_bytes words.now.items) ≡ Some command) }

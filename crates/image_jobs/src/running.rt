@@ -6,8 +6,8 @@ ghost use Rattle.bench.specs.Meter.{CostsOn};
 ghost use Rattle.bench.specs.declared.Dev.{Dev};
 ghost use Rattle.job_stages.specs.Printing.{Prints};
 ghost use Rattle.image_jobs.specs.Asked.{asked, names_of};
-ghost use Rattle.image_jobs.specs.Devices.{AreAttached, MayAttach};
-ghost use Rattle.image_jobs.specs.Printed.{IsRefusal};
+ghost use Rattle.device_commands.specs.Devices.{AreAttached, MayAttach};
+ghost use Rattle.job_answers.specs.Printed.{IsRefusal};
 ghost use Rattle.image_jobs.specs.Run.{Answers, Changes, Completes, HasBound, HasCause, HasCompared, HasMade, IsUsage, lines_of, work_of};
 
 use crate::build_arm::run_build;
