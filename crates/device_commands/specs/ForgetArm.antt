@@ -1,9 +1,9 @@
 -- What the answer of `forget` says of the journal and of the counts, and what it leaves of the devices.
-use Rattle.std.specs.Prelude.{◌≡◌, ℕ, List, Bool, Option}
+use Rattle.std.specs.Prelude.{◌≡◌, ◌⊎◌, ℕ, List, Option}
 use Rattle.outside.specs.Counts.{Rose}
 use Rattle.answer_lines.specs.Kind.{Kind, Finished, LineFailed, Counted, Refused, kind_of}
 use Rattle.answer_lines.specs.declared.answer.Answer.{Answer}
-use Rattle.answer_lines.specs.declared.answer.Answer.TheVariants.{DeviceFault}
+use Rattle.answer_lines.specs.declared.answer.Answer.TheVariants.{DeviceFault, NoMemory}
 use Rattle.answer_lines.specs.declared.answer.Report.{Report}
 use Rattle.answer_lines.specs.declared.answer.Report.TheVariants.{Forgotten}
 use Rattle.bench.specs.declared.Dev.TheVariants.{Journal}
@@ -25,10 +25,11 @@ IsForgetReport other = ⊥
 abbrev pub forget_cause : ℕ → ℕ → Meter → Meter → Answer → Kind → Type 0
 forget_cause before now old new answer (Finished said) = IsForgetReport said × (now ≡ before)
 forget_cause before now old new answer LineFailed = Rose before now
-forget_cause before now old new answer Counted = (answer ≡ DeviceFault Journal) × HasFailed Journal old new
+forget_cause before now old new answer Counted = (answer ≡ NoMemory) ⊎ ((answer ≡ DeviceFault Journal) × HasFailed Journal old new)
 forget_cause before now old new answer Refused = ⊥
 
--- it is done, or its line or a call on the journal failed, by the counts of the lines and of the devices
+-- it is done, or its line or a call on the journal failed, by the counts of the lines and of the devices, or memory was
+-- refused for its words
 abbrev pub ForgetCause : ℕ → ℕ → Meter → Meter → Answer → Type 0
 ForgetCause before now old new answer = forget_cause before now old new answer (kind_of answer)
 

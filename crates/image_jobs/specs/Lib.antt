@@ -5,5 +5,6 @@ pub mod Build
 pub mod BuildArm
 pub mod ListArm
 pub mod MapArm
+pub mod OnDevices
 pub mod Printed
 pub mod Run

@@ -27,10 +27,11 @@ pub report_printed : (said : Report) (line : List ℕ) (before now : Option (Lis
     (answer : Answer) → report_line said ≡ line ∷ [] → answer ≡ reported_of r said → OnOk r (now ≡ added before line)
     → OnErr r (now ≡ before) → OnErr r (Rose faults_before faults_now) → Prints (line_of answer) before now faults_before faults_now
 report_printed said line before now faults_before faults_now (Ok done) answer has is printed stays rose =
-    subst (λ (a : Answer). Prints (line_of a) before now faults_before faults_now) (sym is) (record {
+    subst (λ (a : Answer). Prints (line_of a) before now faults_before faults_now) (sym is)
+    (subst (λ (lines : List (List ℕ)). Prints lines before now faults_before faults_now) (sym has) (record {
       front = record { printed = 1; same = printed };
       whole = λ steady. printed;
-    })
+    }))
 report_printed said line before now faults_before faults_now (Err failed) answer has is printed stays rose =
     subst (λ (a : Answer). Prints (line_of a) before now faults_before faults_now) (sym is) (record {
       front = record { printed = 0; same = stays };
