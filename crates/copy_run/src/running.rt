@@ -83,8 +83,7 @@ fn take_steps<F: Files, B: Bench>(
     pool: &mut Pool,
     copier: &mut Copier,
     units: u64,
-) -> Result<Tally, CopyFault>
-{
+) -> Result<Tally, CopyFault> {
     let mut written = 0;
     let mut kept = 0;
     loop {
@@ -92,7 +91,11 @@ fn take_steps<F: Files, B: Bench>(
             Step::Unit { k: _ } => written += 1,
             Step::Kept { k: _ } => kept += 1,
             Step::Range { r: _ } => {}
-            Step::Done => return Ok(Tally { units, written, kept }),
+            Step::Done => return Ok(Tally {
+                units,
+                written,
+                kept,
+            }),
         }
     }
 }

@@ -9,8 +9,8 @@ ghost use Rattle.image_jobs.specs.Printed.{image_lines, report_lines};
 
 use crate::answering::full_at;
 use answer_lines::{Answer, LINE_ROOM, Report, built_line, image_line};
-use job_answers::reported;
 use image_graph::Graph;
+use job_answers::reported;
 use outside::{PrintErr, Printer};
 
 /// Prints the lines of a build that is done, and answers so. The sizes are those of the images' files in bytes, in the
