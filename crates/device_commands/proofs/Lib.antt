@@ -1,2 +1,3 @@
 -- lemmas
+mod CopyLemmas
 mod VerifyLemmas

@@ -55,7 +55,7 @@ copy_wanted file request = refused_by (copy_answer request) (copying_said file r
 
 -- a refusal: of a run of the job that is said; or the first reason why there is none
 abbrev pub IsCopyRefusal : List ℕ → Result CopyJob Answer → Answer → Type 0
-IsCopyRefusal source wanted (answer.TargetTooSmall has needs) = IsOkAnd wanted (λ job. needs ≡ job.map.size)
+IsCopyRefusal source wanted (answer.TargetTooSmall has needs) = IsOk wanted
 IsCopyRefusal source wanted (answer.JournalHeld kept finished) = IsOk wanted
 IsCopyRefusal source wanted answer.NoJournal = IsOk wanted
 IsCopyRefusal source wanted (answer.JournalForeign kept given len) = IsOk wanted

@@ -13,6 +13,7 @@ ghost use Rattle.copier.specs.Faults.{NoneIsLeft};
 ghost use Rattle.copy_job.specs.Devices.{IsBounded, work_said};
 ghost use Rattle.copy_job.specs.Said.{copying_said};
 ghost use Rattle.copy_opening.specs.declared.opening.Mode.{Mode};
+ghost use Rattle.copy_run.specs.Faults.{IsRunFault};
 ghost use Rattle.copy_run.specs.Runs.{OpensFor, RunHasOutcome, RunIsDone, RunIsNarrow, RunIsTallied, RunKeepsMarks, RunKeepsSince};
 ghost use Rattle.copy_stages.specs.Stages.{KeepsOwn};
 ghost use Rattle.job_stages.specs.Printing.{Prints};
@@ -58,6 +59,8 @@ pub fn run_copy<F: Files, B: Bench, P: Printer>(
     ensures tallied { F.told → B.told → IfOk (copying_said (F.file files.old) request) (λ job. Tells (RunIsTallied job (B.disk bench.old)) result) }
     ensures outcome { F.told → B.told → IfOk (copying_said (F.file files.old) request) (λ job. Tells (RunHasOutcome F.told (F.file files.old job.source) job (B.disk bench.old)) result) }
     ensures cleared { F.told → B.told → IfOk (copying_said (F.file files.old) request) (λ job. Tells (λ answer. IfErr answer (NoneIsLeft job (B.disk bench.new))) result) }
+
+    ensures caused { F.told → IfOk (copying_said (F.file files.old) request) (λ job. Tells (λ answer. IfErr answer (IsRunFault B.told job (B.disk bench.new) (F.counts files.old) (F.counts files.new) (B.meter bench.old) (B.meter bench.new))) result) }
 
     // What is left as it was.
     ensures unwritten { B.told → IsUnwritten result → Looked (B.disk bench.old) (B.disk bench.new) }

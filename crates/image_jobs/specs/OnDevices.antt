@@ -11,12 +11,14 @@ use Rattle.copier_course.specs.declared.jobs.CopyJob.{CopyJob}
 use Rattle.copy_job.specs.Devices.{IsBounded as IsCopyBounded, work_said as copy_work_said}
 use Rattle.copy_job.specs.Said.{copying_said}
 use Rattle.copy_opening.specs.declared.opening.Mode.TheVariants.{Fresh}
+use Rattle.copy_run.specs.Faults.{IsRunFault}
 use Rattle.copy_run.specs.Runs.{OpensFor, RunHasOutcome, RunIsDone, RunIsNarrow, RunIsTallied, RunKeepsMarks, RunKeepsSince}
 use Rattle.copy_stages.specs.Stages.{KeepsOwn}
 use Rattle.device_commands.specs.CopyArm.{IsUnwritten, Tells}
 use Rattle.device_commands.specs.ForgetArm.{Forgets, ForgettingKeepsSince}
 use Rattle.journal_format.specs.Journals.{IsHeld}
 use Rattle.map_source.specs.Said.{map_said}
+use Rattle.outside.specs.Counts.{Counts}
 use Rattle.outside.specs.Files.{Tree}
 use Rattle.verify_job.specs.Devices.{IsBounded, work_said}
 use Rattle.image_jobs.specs.declared.request.Command.{Command}
@@ -62,6 +64,11 @@ IsTallied command file old answer = of_copy command file (λ job. Tells (RunIsTa
 abbrev pub HasOutcome : Option Command → Type 0 → Tree → Disk → Answer → Type 0
 HasOutcome command told file old answer =
     of_copy command file (λ job. Tells (RunHasOutcome told (file job.source) job old) answer)
+
+-- a refusal of its run has its cause: of a difference, the digest that the map states, and that of what the target reads
+abbrev pub HasRunCause : Option Command → Type 0 → Tree → Disk → Counts → Counts → Meter → Meter → Answer → Type 0
+HasRunCause command told file disk before now old new answer =
+    of_copy command file (λ job. Tells (λ end. IfErr end (IsRunFault told job disk before now old new)) answer)
 
 -- after a difference nothing of the range is recorded
 abbrev pub IsCleared : Option Command → Tree → Disk → Answer → Type 0

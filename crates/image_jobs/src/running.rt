@@ -6,7 +6,7 @@ ghost use Rattle.job_stages.specs.Printing.{Prints};
 ghost use Rattle.image_jobs.specs.Asked.{asked, names_of};
 ghost use Rattle.device_commands.specs.Devices.{AreAttached, MayAttach};
 ghost use Rattle.job_answers.specs.Printed.{IsRefusal};
-ghost use Rattle.image_jobs.specs.OnDevices.{HasBill, HasBound, HasForgotten, HasOutcome, IsCleared, IsCopied, IsTallied, KeepsItsJournal, KeepsMarks};
+ghost use Rattle.image_jobs.specs.OnDevices.{HasBill, HasBound, HasForgotten, HasOutcome, HasRunCause, IsCleared, IsCopied, IsTallied, KeepsItsJournal, KeepsMarks};
 ghost use Rattle.image_jobs.specs.OnDevices.{KeepsSince, LeavesDevices, LeavesUnsaid, StaysNarrow, TellsOpening, WritesNothing};
 ghost use Rattle.image_jobs.specs.Run.{Answers, Changes, Completes, HasCause, HasCompared, HasMade, IsUsage, lines_of};
 
@@ -26,9 +26,9 @@ use std::alloc::Global;
 /// Does what the words say, over these files and devices, and prints its lines: `build CONF` makes the images of the
 /// configuration CONF, whose variables are these; `map CONF IMAGE OUT` writes the block map of one of them; `copy SOURCE
 /// MAP TARGET JOURNAL` copies the mapped bytes of a file to a target, beside a journal, `resume` goes on with it, and `forget
-/// JOURNAL` takes back what a journal holds; `verify MAP TARGET` compares a target with a map; `list IMAGE` shows what stands in a file. Commands that aren't there yet are no
-/// words. Each clause goes by what the words ask for; what is wanted is a function of that, of the variables and of the
-/// files as they are told.
+/// JOURNAL` takes back what a journal holds; `verify MAP TARGET` compares a target with a map; `list IMAGE` shows what stands
+/// in a file. Commands that aren't there yet are no words. Each clause goes by what the words ask for; what is wanted is a
+/// function of that, of the variables and of the files as they are told.
 pub fn run<F: Files, B: Bench, P: Printer>(
     alloc: Global,
     words: &Vec<String>,
@@ -72,6 +72,7 @@ pub fn run<F: Files, B: Bench, P: Printer>(
     ensures tallied { F.told → B.told → IsTallied (asked (map string_bytes words.now.items)) (F.file files.old) (B.disk bench.old) result }
     ensures outcome { F.told → B.told → HasOutcome (asked (map string_bytes words.now.items)) F.told (F.file files.old) (B.disk bench.old) result }
     ensures opened { F.told → B.told → TellsOpening (asked (map string_bytes words.now.items)) (F.file files.old) (B.disk bench.old) result }
+    ensures caused { F.told → HasRunCause (asked (map string_bytes words.now.items)) B.told (F.file files.old) (B.disk bench.new) (F.counts files.old) (F.counts files.new) (B.meter bench.old) (B.meter bench.new) result }
     ensures cleared { F.told → B.told → IsCleared (asked (map string_bytes words.now.items)) (F.file files.old) (B.disk bench.new) result }
     ensures forgotten { B.told → HasForgotten (asked (map string_bytes words.now.items)) (B.disk bench.old) (B.disk bench.new) result }
 
