@@ -1,4 +1,4 @@
-//! The contract of a copy; see the notes for its body.
+//! A copy, by the job that the files say.
 ghost use Rattle.std.specs.Prelude.{◌≡◌, IfErr, IfOk};
 ghost use Rattle.base_fields.specs.Numbers.{IsPowerBetween};
 ghost use Rattle.bench.specs.declared.Dev.{Dev};
@@ -16,10 +16,13 @@ ghost use Rattle.copy_job.specs.Devices.{AreNamed, IsBounded, work_said};
 ghost use Rattle.copy_job.specs.Faults.{IsShown};
 ghost use Rattle.copy_job.specs.Said.{copying_said};
 
+use crate::jobs::job_of_request;
+use crate::running::copy_under;
 use crate::{CopyJobFault, CopyRequest};
 use bench::Bench;
 use copy_run::Tally;
 use outside::Files;
+use region_pool::Pool;
 use std::alloc::Global;
 
 /// Copies what is left of the job that the files say: the source's bytes, by the map of another file, to the target,
@@ -71,5 +74,12 @@ pub fn copy_target<F: Files, B: Bench>(
     ensures bill { F.told → Costs (work_said request.now (copying_said (F.file files.old) request.now)) (B.meter bench.old) (B.meter bench.new) }
     ensures bounded { IsBounded request.now (B.meter bench.old) (B.meter bench.new) }
 {
-    Err(CopyJobFault::NoMemory)
+    let job = match job_of_request(alloc, files, request) {
+        Ok(job) => job,
+        Err(fault) => return Err(fault),
+    };
+    let Ok(mut pool) = Pool::new(alloc, 0, 1, request.unit) else {
+        return Err(CopyJobFault::NoMemory);
+    };
+    copy_under(alloc, files, bench, &job, &mut pool, request)
 }

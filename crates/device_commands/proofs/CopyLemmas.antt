@@ -147,10 +147,7 @@ map_says said request source.NoMemory h = tt
 
 is_ok : {A D E : Type 0} (f : D → E) (r : Result A D) → IsOk r → IsOk (refused_by f r)
 is_ok f (Ok x) h = refl
-is_ok f (Err e) h = absurd (wrong h)
-  where
-    wrong : IsOk (Err e) → ⊥
-    wrong same = cc
+is_ok f (Err e) h = cc
 
 run_says : (said : Result CopyJob CopyJobFault) (request : CopyRequest) (f : CopyFault) → IsOk said
     → (f ≡ run.Missing → ⊥)

@@ -79,10 +79,10 @@ abbrev pub CopyAnswers : Tree → CopyRequest → Answer → Type 0
 CopyAnswers file request answer = copy_says request.source (copy_wanted file request) answer (kind_of answer)
 
 abbrev pub copy_expects : List ℕ → Result CopyJob Answer → Answer → Kind → Type 0
-copy_expects source wanted answer (Finished said) = IsOkAnd wanted (λ job. IsCopyReport job said)
-copy_expects source wanted answer LineFailed = ⊥
-copy_expects source wanted answer Counted = answer ≡ answer.NoMemory
-copy_expects source wanted answer Refused = IsCopyRefusal source wanted answer
+copy_expects source wanted got (Finished said) = IsOkAnd wanted (λ job. IsCopyReport job said)
+copy_expects source wanted got LineFailed = ⊥
+copy_expects source wanted got Counted = got ≡ answer.NoMemory
+copy_expects source wanted got Refused = IsCopyRefusal source wanted got
 
 -- so it is where no call on the files and on the devices and no line failed, or memory was refused
 abbrev pub CopyCompletes : Tree → CopyRequest → Counts → Counts → ℕ → ℕ → Meter → Meter → Answer → Type 0

@@ -1,8 +1,9 @@
 //! `copy` and `resume`: the mapped bytes of a file are written to a target, beside a journal.
-ghost use Rattle.std.specs.Prelude.{◌≡◌, ◌≤◌, [], ◌∷◌, None, OnErr, OnOk, Some, IfOk, IfErr};
+ghost use Rattle.std.specs.Prelude.{◌≡◌, ◌≤◌, [], ◌∷◌, None, OnErr, OnOk, Some, IfOk, IfErr, Result};
 ghost use Rattle.base_fields.specs.Numbers.{IsPowerBetween};
 ghost use Rattle.outside.specs.Counts.{NoneFell, Rose};
 ghost use Rattle.outside.specs.Printer.{added};
+ghost use Rattle.outside.specs.declared.printer.PrintErr.{PrintErr};
 ghost use Rattle.answer_lines.specs.Answer.{error_text};
 ghost use Rattle.answer_lines.specs.Lines.{copied_text};
 ghost use Rattle.answer_lines.specs.declared.answer.Report.TheVariants as report;
