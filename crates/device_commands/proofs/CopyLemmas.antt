@@ -1,6 +1,6 @@
 -- What the answer of `copy` says, by the fault of the work.
 use Rattle.std.proofs.Common.{◌≡◌, ◌∙◌, ℕ, Bool, cond, true, false, List, Option, Some, None, Result, Ok, Err, refl, ap, subst, sym, inl, inr}
-use Rattle.std.specs.Prelude.{◌⊎◌, IfOk, IsOk, IsOkAnd, not}
+use Rattle.std.specs.Prelude.{◌⊎◌, IfErr, IfOk, IsOk, IsOkAnd, not}
 use Rattle.base_fields.specs.Results.{◌>>=◌, or_else, refused_by, when}
 use Rattle.outside.specs.Counts.{Counts, Rose}
 use Rattle.outside.specs.Files.{Tree}
@@ -14,6 +14,7 @@ use Rattle.bench.specs.declared.Dev.TheVariants as dev
 use Rattle.copier.specs.declared.faults.CopyFault.{CopyFault}
 use Rattle.copier.specs.declared.faults.CopyFault.TheVariants as run
 use Rattle.copier_course.specs.declared.jobs.CopyJob.{CopyJob}
+use Rattle.copy_job.specs.Copies as copies
 use Rattle.copy_job.specs.Copies.{Answers, OfRun}
 use Rattle.copy_job.specs.Faults.{IsShown}
 use Rattle.copy_job.specs.Said.{copying_said, is_compressed, job_in}
@@ -26,8 +27,8 @@ use Rattle.map_source.specs.Said.{map_said}
 use Rattle.map_source.specs.declared.faults.SourceFault.{SourceFault}
 use Rattle.map_source.specs.declared.faults.SourceFault.TheVariants as source
 use Rattle.map_source.specs.declared.sources.MapSource.{MapSource}
-use Rattle.job_answers.specs.Printed.{reported_of}
-use Rattle.device_commands.specs.CopyArm.{IsCopyRefusal, Tells, copy_answer, copy_expects, copy_says, copy_wanted, run_answer}
+use Rattle.job_answers.specs.Printed.{Reports, reported_of}
+use Rattle.device_commands.specs.CopyArm.{IsCopyRefusal, IsUnwritten, Tells, copy_answer, copy_expects, copy_says, copy_wanted, run_answer}
 use Rattle.device_commands.specs.VerifyArm.{source_answer}
 
 -- ---- the run that an answer tells
@@ -180,10 +181,9 @@ not_missed : (file : Tree) (request : CopyRequest) (said : Result CopyJob CopyJo
     → Answers said (Err f) → IfOk said (λ job. OfRun (TellsFile (file job.source)) (Err f)) → f ≡ fault.Copy run.Missing → ⊥
 not_missed file request (Ok job) is f h read same =
     there file request job is (subst (λ (x : CopyJobFault). OfRun (TellsFile (file job.source)) (Err x)) same read)
-not_missed file request (Err refusal) is f h read same = wrong (subst (λ (x : CopyJobFault). Answers (Err refusal) (Err x)) same h)
-  where
-    wrong : IsOk (Err refusal) → ⊥
-    wrong none = cc
+not_missed file request (Err refusal) is f h read same =
+    let missed : Answers (Err refusal) (Err (fault.Copy run.Missing)) = subst (λ (x : CopyJobFault). Answers (Err refusal) (Err x)) same h in
+    cc
 
 pub copy_refused : (file : Tree) (request : CopyRequest) (f : CopyJobFault) → Answers (copying_said file request) (Err f)
     → IfOk (copying_said file request) (λ job. OfRun (TellsFile (file job.source)) (Err f))
@@ -281,3 +281,71 @@ pub copy_completes : (file : Tree) (request : CopyRequest) (before now : Counts)
 copy_completes file request before now old new f h read shown steady target journal =
     expected request.source (copy_wanted file request) (copy_answer request f) (kind_of (copy_answer request f))
     (memory_alone before now old new request f shown steady target journal) (refused_line request f) (copy_refused file request f h read)
+
+-- ---- an answer of work that is done
+
+pub done_says : (said : Result CopyJob CopyJobFault) (request : CopyRequest) (tally : Tally) (answered : Result Unit PrintErr) (a : Answer)
+    → a ≡ reported_of answered (report.Copied tally.units tally.written tally.kept) → IsOk said
+    → copy_says request.source (refused_by (copy_answer request) said) a (kind_of a)
+done_says said request tally (Ok printed) a is h =
+    subst (λ (x : Answer). copy_says request.source (refused_by (copy_answer request) said) x (kind_of x)) (sym is)
+    (is_ok (copy_answer request) said h, tt)
+done_says said request tally (Err failed) a is h =
+    subst (λ (x : Answer). copy_says request.source (refused_by (copy_answer request) said) x (kind_of x)) (sym is)
+    (is_ok (copy_answer request) said h)
+
+pub done_completes : (said : Result CopyJob CopyJobFault) (request : CopyRequest) (tally : Tally) (answered : Result Unit PrintErr) (a : Answer)
+    (before now : ℕ) → a ≡ reported_of answered (report.Copied tally.units tally.written tally.kept)
+    → Reports (report.Copied tally.units tally.written tally.kept) before now a → ¬ (Rose before now) → IsOk said
+    → copy_expects request.source (refused_by (copy_answer request) said) a (kind_of a)
+done_completes said request tally (Ok printed) a before now is reports steady h =
+    subst (λ (x : Answer). copy_expects request.source (refused_by (copy_answer request) said) x (kind_of x)) (sym is)
+    (is_ok (copy_answer request) said h, tt)
+done_completes said request tally (Err failed) a before now is reports steady h =
+    absurd (steady (subst (λ (x : Answer). Reports (report.Copied tally.units tally.written tally.kept) before now x) is reports))
+
+pub done_is_written : (tally : Tally) (answered : Result Unit PrintErr) (a : Answer)
+    → a ≡ reported_of answered (report.Copied tally.units tally.written tally.kept) → IsUnwritten a → ⊥
+done_is_written tally (Ok printed) a is h = subst (λ (x : Answer). IsUnwritten x) is h
+done_is_written tally (Err failed) a is h = subst (λ (x : Answer). IsUnwritten x) is h
+
+-- ---- what is left as it was
+
+run_unwritten : (name : List ℕ) (f : CopyFault) → IsUnwritten (run_answer name f) → copies.IsUnwritten (fault.Copy f)
+run_unwritten name (run.TargetTooSmall has needs) h = tt
+run_unwritten name (run.JournalHeld kept finished) h = tt
+run_unwritten name run.NoJournal h = tt
+run_unwritten name (run.JournalForeign kept given len) h = tt
+run_unwritten name (run.SourceShort at) h = absurd h
+run_unwritten name run.Missing h = absurd h
+run_unwritten name run.FileFault h = absurd h
+run_unwritten name (run.DeviceFault dev) h = absurd h
+run_unwritten name (run.RangeDiffers range want got) h = absurd h
+run_unwritten name run.NoMemory h = tt
+
+pub fault_unwritten : (request : CopyRequest) (f : CopyJobFault) → IsUnwritten (copy_answer request f) → copies.IsUnwritten f
+fault_unwritten request fault.Compressed h = tt
+fault_unwritten request fault.Missing h = tt
+fault_unwritten request fault.FileFault h = tt
+fault_unwritten request (fault.Map f) h = tt
+fault_unwritten request (fault.TooManyUnits count limit) h = tt
+fault_unwritten request (fault.DeviceFault dev) h = tt
+fault_unwritten request (fault.Copy f) h = run_unwritten request.source f h
+fault_unwritten request fault.NoMemory h = tt
+
+-- where there is no job the work was refused before the copy was opened
+pub unsaid_is_before : {A : Type 0} (said : Result CopyJob CopyJobFault) (f : CopyJobFault) → Answers said (Err f)
+    → (copies.IsBefore f → A) → IfErr said (λ refusal. A)
+unsaid_is_before {A} (Ok job) f h left = tt
+unsaid_is_before {A} (Err refusal) fault.Compressed h left = left tt
+unsaid_is_before {A} (Err refusal) fault.Missing h left = left tt
+unsaid_is_before {A} (Err refusal) fault.FileFault h left = left tt
+unsaid_is_before {A} (Err refusal) (fault.Map f) h left = left tt
+unsaid_is_before {A} (Err refusal) (fault.TooManyUnits count limit) h left = left tt
+unsaid_is_before {A} (Err refusal) (fault.DeviceFault dev) h left = left tt
+unsaid_is_before {A} (Err refusal) (fault.Copy f) h left = cc
+unsaid_is_before {A} (Err refusal) fault.NoMemory h left = left tt
+
+pub unsaid_isnt_done : {A : Type 0} (said : Result CopyJob CopyJobFault) → IsOk said → IfErr said (λ refusal. A)
+unsaid_isnt_done {A} (Ok job) h = tt
+unsaid_isnt_done {A} (Err refusal) h = cc

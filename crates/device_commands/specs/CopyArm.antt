@@ -1,5 +1,5 @@
 -- What the answer of `copy` and `resume` says of the job, of the counts, of the devices and of the lines.
-use Rattle.std.specs.Prelude.{◌≡◌, ◌⊎◌, ℕ, List, Result, Ok, Err, IsOk, IsOkAnd}
+use Rattle.std.specs.Prelude.{◌≡◌, ◌⊎◌, ℕ, List, Result, Ok, Err, IsOk}
 use Rattle.base_fields.specs.Results.{refused_by}
 use Rattle.outside.specs.Counts.{Counts, Rose}
 use Rattle.outside.specs.Files.{Tree}
@@ -8,7 +8,6 @@ use Rattle.answer_lines.specs.declared.answer.Answer.{Answer}
 use Rattle.answer_lines.specs.declared.answer.Answer.TheVariants as answer
 use Rattle.answer_lines.specs.declared.answer.Report.{Report}
 use Rattle.answer_lines.specs.declared.answer.Report.TheVariants as report
-use Rattle.bench.specs.Disk.{Disk, Looked}
 use Rattle.bench.specs.Meter.{Meter}
 use Rattle.copier.specs.declared.faults.CopyFault.{CopyFault}
 use Rattle.copier.specs.declared.faults.CopyFault.TheVariants as run
@@ -63,13 +62,13 @@ IsCopyRefusal source wanted (answer.RangeDiffers range want got) = IsOk wanted
 IsCopyRefusal source wanted (answer.SourceShort name at) = (IsOk wanted × (name ≡ source)) ⊎ (wanted ≡ Err (answer.SourceShort name at))
 IsCopyRefusal source wanted other = wanted ≡ Err other
 
--- the report has all units of the job
-abbrev pub IsCopyReport : CopyJob → Report → Type 0
-IsCopyReport job (report.Copied units written kept) = units ≡ job.id.units
-IsCopyReport job other = ⊥
+-- a report has the numbers of a copy
+abbrev pub IsCopyReport : Report → Type 0
+IsCopyReport (report.Copied units written kept) = Unit {0}
+IsCopyReport other = ⊥
 
 abbrev pub copy_says : List ℕ → Result CopyJob Answer → Answer → Kind → Type 0
-copy_says source wanted answer (Finished said) = IsOkAnd wanted (λ job. IsCopyReport job said)
+copy_says source wanted answer (Finished said) = IsOk wanted × IsCopyReport said
 copy_says source wanted answer LineFailed = IsOk wanted
 copy_says source wanted answer Counted = Unit {0}
 copy_says source wanted answer Refused = IsCopyRefusal source wanted answer
@@ -79,7 +78,7 @@ abbrev pub CopyAnswers : Tree → CopyRequest → Answer → Type 0
 CopyAnswers file request answer = copy_says request.source (copy_wanted file request) answer (kind_of answer)
 
 abbrev pub copy_expects : List ℕ → Result CopyJob Answer → Answer → Kind → Type 0
-copy_expects source wanted got (Finished said) = IsOkAnd wanted (λ job. IsCopyReport job said)
+copy_expects source wanted got (Finished said) = IsOk wanted × IsCopyReport said
 copy_expects source wanted got LineFailed = ⊥
 copy_expects source wanted got Counted = got ≡ answer.NoMemory
 copy_expects source wanted got Refused = IsCopyRefusal source wanted got
