@@ -10,7 +10,7 @@ use Rattle.copy_states.specs.Starts.{Pair}
 use Rattle.copier.specs.Steps.{Passes}
 use Rattle.copier.specs.declared.steps.Step.{Step}
 use Rattle.copier.specs.declared.steps.Step.TheVariants as did
-use Rattle.copier_course.specs.Courses.{IsCopyJob, IsCourse, need_of, position_of}
+use Rattle.copier_course.specs.Courses.{IsAtFirst, IsCopyJob, IsCourse, need_of, position_of}
 use Rattle.copier_course.specs.declared.courses.Course.{Course}
 use Rattle.copier_course.specs.declared.jobs.CopyJob.{CopyJob}
 use Rattle.copier.specs.Steps.{needed}
@@ -32,7 +32,7 @@ pub record Stands (job : CopyJob) (source : Option (List ℕ)) (start : Pair) (c
 -- has neither written nor kept a unit
 abbrev pub OpenedHaveNone : Type 0
 OpenedHaveNone = (job : CopyJob) (start : Pair) (c : Course) (t j : List ℕ) →
-    ((source : Option (List ℕ)) → Stands job source start c t j) →
+    ((source : Option (List ℕ)) → Stands job source start c t j) → IsAtFirst job c →
     (start.journal ≡ j) ⊎ (¬ IsHeld start.journal) →
     IsTallied job.id job.map start c.unit 0 0
 
