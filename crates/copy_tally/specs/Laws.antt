@@ -1,8 +1,7 @@
 -- What each step of a copier adds to the numbers of its run, over plain values: c is where it stood, d where it stands.
-use Rattle.std.specs.Prelude.{◌≡◌, ◌⊎◌, ℕ, ◌+◌, ◌<◌, ◌≤◌, List, Option, Some, None, take, sum_by}
+use Rattle.std.specs.Prelude.{◌≡◌, ◌⊎◌, ℕ, ◌+◌, List, Option}
 use Rattle.base_fields.specs.Numbers.{IsPowerBetween}
 use Rattle.block_map.specs.Maps.{IsMap}
-use Rattle.block_map.specs.Units.{units_of}
 use Rattle.block_map.specs.declared.maps.BlockMap.{BlockMap}
 use Rattle.journal_format.specs.Journals.{IsHeld}
 use Rattle.copy_states.specs.Along.{Along}
