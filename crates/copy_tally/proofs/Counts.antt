@@ -1,5 +1,5 @@
 -- How many numbers are in a set: what adds one, what adds none, and that the number is one.
-use Rattle.std.proofs.Common.{◌≡◌, ◌⊎◌, ℕ, zero, suc, ◌+◌, ◌<◌, ◌≤◌, List, [], ◌∷◌, ◌++◌, length, get_or, inl, inr, refl, subst, ⊎_elim, ◌∙◌, arith, length-append}
+use Rattle.std.proofs.Common.{◌≡◌, ◌⊎◌, ℕ, zero, suc, ◌+◌, ◌<◌, ◌≤◌, List, [], ◌∷◌, ◌++◌, length, get_or, inl, inr, refl, ap, subst, ⊎_elim, ◌∙◌, arith, length-append}
 use Rattle.std.proofs.lemmas.Bool.{cases_eq, cases_lt}
 use Rattle.std.proofs.lemmas.List.{get_or_default}
 use Rattle.std.proofs.lemmas.List.Elements.{Contains-append_left, Contains-get_or, Contains-push, Contains-push_cases}
@@ -63,7 +63,10 @@ none_more set n now from to upto none same count =
     ]) same count
 
 -- ---- one number
-module _ (xs ys : List ℕ) (up : AllPairs (λ (k later : ℕ). k < later) xs) (rise : AllPairs (λ (k later : ℕ). k < later) ys) (each : (k : ℕ) → Contains xs k → Contains ys k) where
+abbrev Ascends : List ℕ → Type 0
+Ascends = AllPairs (λ k later. k < later)
+
+module _ (xs ys : List ℕ) (up : Ascends xs) (rise : Ascends ys) (each : (k : ℕ) → Contains xs k → Contains ys k) where
   at_some : (i : ℕ) → i < length xs → (j : ℕ) × (j < length ys) × (get_or ys j 0 ≡ get_or xs i 0)
   at_some i inside =
       let it = each (get_or xs i 0) (Contains-get_or xs i 0 inside) in
@@ -74,7 +77,7 @@ module _ (xs ys : List ℕ) (up : AllPairs (λ (k later : ℕ). k < later) xs) (
   later_place j l inside less = elim (cases_lt l j) [
     | inl fine ↦ fine
     | inr upto ↦ elim (cases_eq j l) [
-      | inl same ↦ let equal : get_or ys j 0 ≡ get_or ys l 0 = subst (λ (n : ℕ). get_or ys j 0 ≡ get_or ys n 0) same refl in absurd (omega (arith, less, equal))
+      | inl same ↦ let equal : get_or ys j 0 ≡ get_or ys l 0 = ap (λ (n : ℕ). get_or ys n 0) same in absurd (omega (arith, less, equal))
       | inr other ↦ let more : get_or ys j 0 < get_or ys l 0 = rise j l 0 (omega (arith, upto, other)) inside in absurd (omega (arith, less, more))
     ]
   ]

@@ -13,16 +13,19 @@ use Rattle.block_map.specs.Units.{joined}
 use Rattle.copy_tally.specs.Laws.{UnitsAreMapped}
 
 -- the first n pieces of a span have its first bytes
-first_pieces : (unit : ℕ) (s : Span) (n : ℕ) → sum_by (λ (u : Span). u.len) (map (piece unit s) (range_with_len 0 n)) ≡ min (n * unit) s.len
+abbrev bytes_of_first : ℕ → Span → ℕ → ℕ
+bytes_of_first unit s n = sum_by (λ u. u.len) (map (piece unit s) (range_with_len 0 n))
+
+first_pieces : (unit : ℕ) (s : Span) (n : ℕ) → bytes_of_first unit s n ≡ min (n * unit) s.len
 first_pieces unit s zero = let none : min (0 * unit) s.len ≡ 0 = omega arith in sym none
 first_pieces unit s (suc n) =
-    let before : sum_by (λ (u : Span). u.len) (map (piece unit s) (range_with_len 0 n)) ≡ min (n * unit) s.len = first_pieces unit s n in
-    let next : sum_by (λ (u : Span). u.len) (map (piece unit s) (range_with_len 0 (n + 1))) ≡ sum_by (λ (u : Span). u.len) (map (piece unit s) (range_with_len 0 n)) + min unit (s.len - n * unit) = sum_by-map-range_with_len_more (λ (u : Span). u.len) (piece unit s) 0 n n (omega arith) in
+    let next : bytes_of_first unit s (n + 1) ≡ bytes_of_first unit s n + min unit (s.len - n * unit) =
+    sum_by-map-range_with_len_more (λ (u : Span). u.len) (piece unit s) 0 n n (omega arith) in
     let row : (n + 1) * unit ≡ n * unit + unit = omega arith in
     let sum : min (n * unit) s.len + min unit (s.len - n * unit) ≡ min ((n + 1) * unit) s.len = omega (arith, row) in
     let same : n + 1 ≡ suc n = omega arith in
-    subst (λ (i : ℕ). sum_by (λ (u : Span). u.len) (map (piece unit s) (range_with_len 0 i)) ≡ min (i * unit) s.len) same
-    (next ∙ ap (λ (b : ℕ). b + min unit (s.len - n * unit)) before ∙ sum)
+    subst (λ (i : ℕ). bytes_of_first unit s i ≡ min (i * unit) s.len) same
+    (next ∙ ap (λ (b : ℕ). b + min unit (s.len - n * unit)) (first_pieces unit s n) ∙ sum)
 
 -- and all pieces have all
 pieces_have : (unit : ℕ) (s : Span) → 0 < unit → sum_by (λ (u : Span). u.len) (pieces unit s) ≡ s.len

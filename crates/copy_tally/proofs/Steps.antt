@@ -161,16 +161,20 @@ module _ (job : CopyJob) (source : Option (List ℕ)) (start : Pair) (c : Course
       IsTallied job.id job.map start d.unit (written + 0) (kept + 0)
   none_adds d written kept same tallied =
       let now : IsTallied job.id job.map start c.unit (written + 0) (kept + 0) = record {
-        writes = counted_so (λ k. IsIdle job.id job.map start k × (k < c.unit)) (λ k. IsIdle job.id job.map start k × (k < c.unit)) written (written + 0) (λ k is. is) (λ k is. is) (omega arith) tallied.writes;
-        keeps = counted_so (λ k. IsKeptAt job.id job.map start k × (k < c.unit)) (λ k. IsKeptAt job.id job.map start k × (k < c.unit)) kept (kept + 0) (λ k is. is) (λ k is. is) (omega arith) tallied.keeps;
+        writes = none_more (IsIdle job.id job.map start) written (written + 0) c.unit c.unit (omega arith) (λ k is from to. omega (arith, from, to)) (omega arith) tallied.writes;
+        keeps = none_more (IsKeptAt job.id job.map start) kept (kept + 0) c.unit c.unit (omega arith) (λ k is from to. omega (arith, from, to)) (omega arith) tallied.keeps;
       } in
       subst (λ (x : Course). IsTallied job.id job.map start x.unit (written + 0) (kept + 0)) (sym same) now
 
 pub steps_add_up : StepsAddUp
-steps_add_up job source start c d t j u i (did.Unit k) written kept stands after next passes tallied = unit_adds job source start c t j stands d k written kept next passes tallied
-steps_add_up job source start c d t j u i (did.Kept k) written kept stands after next passes tallied = kept_adds job source start c t j stands d k written kept next passes tallied
-steps_add_up job source start c d t j u i (did.Range r) written kept stands after next passes tallied = range_adds job source start c t j stands d r written kept next after.course passes.0 passes.1 tallied
-steps_add_up job source start c d t j u i did.Done written kept stands after next passes tallied = none_adds job source start c t j stands d written kept passes tallied
+steps_add_up job source start c d t j u i (did.Unit k) written kept stands after next passes tallied =
+    unit_adds job source start c t j stands d k written kept next passes tallied
+steps_add_up job source start c d t j u i (did.Kept k) written kept stands after next passes tallied =
+    kept_adds job source start c t j stands d k written kept next passes tallied
+steps_add_up job source start c d t j u i (did.Range r) written kept stands after next passes tallied =
+    range_adds job source start c t j stands d r written kept next after.course passes.0 passes.1 tallied
+steps_add_up job source start c d t j u i did.Done written kept stands after next passes tallied =
+    none_adds job source start c t j stands d written kept passes tallied
 
 -- ---- the end
 pub done_have_all : DoneHaveAll
