@@ -1,5 +1,5 @@
 -- A run behind a look at the devices: all that is said of it from its own start holds from the look's start, too.
-use Rattle.std.proofs.Common.{◌≡◌, ℕ, List, Option, Some, Result, Ok, Err, ap, subst, sym, inl, refl, arith, tt}
+use Rattle.std.proofs.Common.{◌≡◌, ℕ, List, Option, Some, Result, Ok, Err, ap, subst, sym, inl, refl, arith}
 use Rattle.bench.specs.declared.Dev.{Dev}
 use Rattle.bench.specs.declared.Dev.TheVariants.{Target, Journal}
 use Rattle.bench.specs.Disk.{Disk, Looked, Runs}

@@ -1,5 +1,5 @@
 -- A copy by the run of its job, and one that isn't run.
-use Rattle.std.proofs.Common.{◌≡◌, ℕ, ◌+◌, ◌≤◌, List, [], Option, Result, Ok, Err, ap, subst, sym, refl, arith, tt, absurd}
+use Rattle.std.proofs.Common.{◌≡◌, ℕ, ◌+◌, ◌≤◌, List, [], Option, Result, Ok, Err, ap, subst, sym, refl, arith}
 use Rattle.std.specs.Prelude.{IsOk, IfErr, IfOk}
 use Rattle.std.proofs.lemmas.List.Elements.{All-nil}
 use Rattle.base_fields.specs.Numbers.{IsPowerBetween}
