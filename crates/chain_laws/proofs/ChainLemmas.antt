@@ -35,14 +35,17 @@ pub stands : {B : Type 0} (disk : B → Disk) → BenchesStand disk
 stands disk bench = record { reads = refl; images = λ dev image leaves. leaves; time = time_stands (disk bench) }
 
 -- a run keeps what each pair at its start has
-holds_in : {B : Type 0} (disk : B → Disk) → OnlyNow disk → (job : Job) (before : List ℕ) (run : Run B) → IsRunOf job (disk run.old) (disk run.new) → EachPair (disk run.old) (HasSince job before) → HoldsIn (HasSince job before) (disk run.old) (disk run.new)
+holds_in : {B : Type 0} (disk : B → Disk) → OnlyNow disk → (job : Job) (before : List ℕ) (run : Run B) →
+    IsRunOf job (disk run.old) (disk run.new) → EachPair (disk run.old) (HasSince job before) →
+    HoldsIn (HasSince job before) (disk run.old) (disk run.new)
 holds_in disk only job before run of_job each = record {
   since = runs_since {a = disk run.old} {b = disk run.new} {P = HasSince job before} (only run.old) each (of_job before each);
   now = (of_job before each).now;
 }
 
 -- where it goes on, each pair has that again
-on_pair : (P : List ℕ → List ℕ → Type 0) (next : Disk) → P (next.reads Target) (next.reads Journal) → (t j : List ℕ) → t ≡ next.reads Target → j ≡ next.reads Journal → P t j
+on_pair : (P : List ℕ → List ℕ → Type 0) (next : Disk) → P (next.reads Target) (next.reads Journal) → (t j : List ℕ) →
+    t ≡ next.reads Target → j ≡ next.reads Journal → P t j
 on_pair P next has t j of_target of_journal =
     subst (λ (x : List ℕ). P x j) (sym of_target) (subst (λ (y : List ℕ). P (next.reads Target) y) (sym of_journal) has)
 
@@ -54,7 +57,10 @@ goes_on P old new next holds (inr stopped) t j pair =
     (stopped.journal j pair.1)
 
 -- ---- all of a chain
-all_hold : {B : Type 0} (disk : B → Disk) → OnlyNow disk → (job : Job) (before : List ℕ) (run : Run B) (runs : List (Run B)) → HoldsIn (HasSince job before) (disk run.old) (disk run.new) → GoOn disk job run runs → AllByRecursion (λ (r : Run B). HoldsIn (HasSince job before) (disk r.old) (disk r.new)) (run ∷ runs)
+all_hold : {B : Type 0} (disk : B → Disk) → OnlyNow disk →
+    (job : Job) (before : List ℕ) (run : Run B) (runs : List (Run B)) →
+    HoldsIn (HasSince job before) (disk run.old) (disk run.new) → GoOn disk job run runs →
+    AllByRecursion (λ (r : Run B). HoldsIn (HasSince job before) (disk r.old) (disk r.new)) (run ∷ runs)
 all_hold disk only job before run [] holds on = (holds, tt)
 all_hold disk only job before run (next ∷ runs) holds on = (
   holds,
@@ -70,7 +76,9 @@ chains disk only job first later chain =
     (holds_in disk only job (before_of disk first) first chain.run (first_starts disk job first.old chain.start)) chain.on)
 
 -- ---- done
-done_copy : (job : Job) (before : List ℕ) (new : Disk) → ((dev : Dev) → new.leaves dev (new.reads dev)) → IsJobOf job.id job.map → EachPair new (HasSince job before) → EndsDone job new → IsDoneCopy job before (new.reads Target) (new.reads Journal)
+done_copy : (job : Job) (before : List ℕ) (new : Disk) → ((dev : Dev) → new.leaves dev (new.reads dev)) →
+    IsJobOf job.id job.map → EachPair new (HasSince job before) → EndsDone job new →
+    IsDoneCopy job before (new.reads Target) (new.reads Journal)
 done_copy job before new reads of_map each ends =
     let since : HasSince job before (new.reads Target) (new.reads Journal) = each (new.reads Target) (new.reads Journal) (reads Target, reads Journal) in
     record {
@@ -78,7 +86,8 @@ done_copy job before new reads of_map each ends =
       rest = since.rest;
     }
 
-holds_copy : (job : Job) (before : List ℕ) (new : Disk) → ((dev : Dev) → new.leaves dev (new.reads dev)) → IsJobOf job.id job.map → EachPair new (HasSince job before) → EndsDone job new → HoldsCopy job before new
+holds_copy : (job : Job) (before : List ℕ) (new : Disk) → ((dev : Dev) → new.leaves dev (new.reads dev)) →
+    IsJobOf job.id job.map → EachPair new (HasSince job before) → EndsDone job new → HoldsCopy job before new
 holds_copy job before new reads of_map each ends =
     let done : IsDoneCopy job before (new.reads Target) (new.reads Journal) = done_copy job before new reads of_map each ends in
     record {
