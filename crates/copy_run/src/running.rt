@@ -10,7 +10,7 @@ ghost use Rattle.copy_stages.specs.Stages.{KeepsOwn};
 ghost use Rattle.copier.specs.Faults.{IsUnwritten, NoneIsLeft};
 ghost use Rattle.copier_course.specs.Courses.{IsCopyJob};
 ghost use Rattle.copy_run.specs.Faults.{IsRunFault, most_work};
-ghost use Rattle.copy_run.specs.Runs.{OpensFor, RunHasOutcome, RunIsDone, RunIsNarrow, RunIsTallied, RunKeepsMarks, RunKeepsSince};
+ghost use Rattle.copy_run.specs.Runs.{OpensFor, RunHasOutcome, RunIsDone, RunIsNarrow, RunIsTallied, RunKeepsMarks, RunKeepsSince, TellsFile};
 
 use bench::Bench;
 use copier::{Copier, CopyFault, CopyJob, Step};
@@ -60,6 +60,8 @@ pub fn copy_all<F: Files, B: Bench>(
     ensures unwritten { B.told → IfErr result (λ fault. IsUnwritten fault → Looked (B.disk bench.old) (B.disk bench.new)) }
     ensures held { B.told → job.now.mode ≡ Mode.Fresh → IsHeld ((B.disk bench.old).reads Dev.Journal) → Looked (B.disk bench.old) (B.disk bench.new) }
 
+    ensures read { F.told → TellsFile (F.file files.old job.now.source) result }
+
     // Told or not.
     ensures cause { IfErr result (IsRunFault B.told job.now (B.disk bench.new) (F.counts files.old) (F.counts files.new) (B.meter bench.old) (B.meter bench.new)) }
     ensures none_fell { NoneFell (F.counts files.old) (F.counts files.new) }
@@ -81,8 +83,7 @@ fn take_steps<F: Files, B: Bench>(
     pool: &mut Pool,
     copier: &mut Copier,
     units: u64,
-) -> Result<Tally, CopyFault>
-{
+) -> Result<Tally, CopyFault> {
     let mut written = 0;
     let mut kept = 0;
     loop {
@@ -90,7 +91,11 @@ fn take_steps<F: Files, B: Bench>(
             Step::Unit { k: _ } => written += 1,
             Step::Kept { k: _ } => kept += 1,
             Step::Range { r: _ } => {}
-            Step::Done => return Ok(Tally { units, written, kept }),
+            Step::Done => return Ok(Tally {
+                units,
+                written,
+                kept,
+            }),
         }
     }
 }
