@@ -40,3 +40,4 @@ IsShown before now old new (Copy run.FileFault) = Rose before.faults now.faults
 IsShown before now old new (Copy (run.DeviceFault dev)) = HasFailed dev old new
 IsShown before now old new (Copy (run.RangeDiffers range want got)) = want ≢ got
 IsShown before now old new (Copy run.NoMemory) = Unit {0}
+IsShown before now old new NoMemory = Unit {0}

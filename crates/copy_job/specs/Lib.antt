@@ -3,3 +3,4 @@ pub mod Copies
 pub mod Devices
 pub mod Faults
 pub mod Said
+pub mod Stages

@@ -1,4 +1,4 @@
-//! The contract of a copy; see the notes for its body.
+//! A copy, by the job that the files say.
 ghost use Rattle.std.specs.Prelude.{◌≡◌, IfErr, IfOk};
 ghost use Rattle.base_fields.specs.Numbers.{IsPowerBetween};
 ghost use Rattle.bench.specs.declared.Dev.{Dev};
@@ -6,7 +6,8 @@ ghost use Rattle.bench.specs.Disk.{Looked, StillLeaves};
 ghost use Rattle.bench.specs.Meter.{Costs, HasNoOther};
 ghost use Rattle.copier.specs.Faults.{NoneIsLeft};
 ghost use Rattle.copy_opening.specs.declared.opening.Mode.{Mode};
-ghost use Rattle.copy_run.specs.Runs.{OpensFor, RunHasOutcome, RunIsDone, RunIsNarrow, RunIsTallied, RunKeepsMarks, RunKeepsSince};
+ghost use Rattle.copy_run.specs.Faults.{IsRunFault};
+ghost use Rattle.copy_run.specs.Runs.{OpensFor, RunHasOutcome, RunIsDone, RunIsNarrow, RunIsTallied, RunKeepsMarks, RunKeepsSince, TellsFile};
 ghost use Rattle.copy_stages.specs.Stages.{KeepsOwn};
 ghost use Rattle.journal_format.specs.Journals.{IsHeld, IsWindow};
 ghost use Rattle.outside.specs.Counts.{NoneFell};
@@ -15,10 +16,13 @@ ghost use Rattle.copy_job.specs.Devices.{AreNamed, IsBounded, work_said};
 ghost use Rattle.copy_job.specs.Faults.{IsShown};
 ghost use Rattle.copy_job.specs.Said.{copying_said};
 
+use crate::jobs::job_of_request;
+use crate::running::copy_under;
 use crate::{CopyJobFault, CopyRequest};
 use bench::Bench;
 use copy_run::Tally;
 use outside::Files;
+use region_pool::Pool;
 use std::alloc::Global;
 
 /// Copies what is left of the job that the files say: the source's bytes, by the map of another file, to the target,
@@ -51,6 +55,10 @@ pub fn copy_target<F: Files, B: Bench>(
     ensures outcome { F.told → B.told → IfOk (copying_said (F.file files.old) request.now) (λ job. OfRun (RunHasOutcome F.told (F.file files.old job.source) job (B.disk bench.old)) result) }
     ensures cleared { F.told → B.told → IfOk (copying_said (F.file files.old) request.now) (λ job. OfRun (λ answer. IfErr answer (NoneIsLeft job (B.disk bench.new))) result) }
 
+    ensures read { F.told → IfOk (copying_said (F.file files.old) request.now) (λ job. OfRun (TellsFile (F.file files.old job.source)) result) }
+
+    ensures caused { F.told → IfOk (copying_said (F.file files.old) request.now) (λ job. OfRun (λ answer. IfErr answer (IsRunFault B.told job (B.disk bench.new) (F.counts files.old) (F.counts files.new) (B.meter bench.old) (B.meter bench.new))) result) }
+
     // What is left as it was, whatever the files tell.
     ensures unwritten { B.told → IfErr result (λ fault. IsUnwritten fault → Looked (B.disk bench.old) (B.disk bench.new)) }
     ensures held { B.told → request.now.mode ≡ Mode.Fresh → IsHeld ((B.disk bench.old).reads Dev.Journal) → Looked (B.disk bench.old) (B.disk bench.new) }
@@ -66,5 +74,12 @@ pub fn copy_target<F: Files, B: Bench>(
     ensures bill { F.told → Costs (work_said request.now (copying_said (F.file files.old) request.now)) (B.meter bench.old) (B.meter bench.new) }
     ensures bounded { IsBounded request.now (B.meter bench.old) (B.meter bench.new) }
 {
-    Err(CopyJobFault::NoMemory)
+    let job = match job_of_request(alloc, files, request) {
+        Ok(job) => job,
+        Err(fault) => return Err(fault),
+    };
+    let Ok(mut pool) = Pool::new(alloc, 0, 1, request.unit) else {
+        return Err(CopyJobFault::NoMemory);
+    };
+    copy_under(alloc, files, bench, &job, &mut pool, request)
 }

@@ -4,7 +4,9 @@
 mod copying;
 mod faults;
 mod forgetting;
+mod jobs;
 mod requests;
+mod running;
 
 pub use copier::{CopyFault, Mode};
 pub use copy_run::Tally;

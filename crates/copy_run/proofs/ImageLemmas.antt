@@ -64,7 +64,7 @@ under_way told file job was a sound begins fits = record {
 pub window_stays : (job : CopyJob) (now next : Progress) (step : Step) → GoesTo job now next (Ok step) → window_in next ≡ window_in now
 window_stays job (Ok c) (Ok d) (did.Unit k) to = ap (λ (x : Course). x.window) to.same
 window_stays job (Ok c) (Ok d) (did.Kept k) to = ap (λ (x : Course). x.window) to
-window_stays job (Ok c) (Ok d) (did.Range r) to = to.window
+window_stays job (Ok c) (Ok d) (did.Range r) to = to.0.window
 window_stays job (Ok c) (Ok d) did.Done to = ap (λ (x : Course). x.window) to
 window_stays job (Ok c) (Err kept) step to = absurd to
 window_stays job (Err kept) next step to = absurd to

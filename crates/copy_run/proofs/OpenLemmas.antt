@@ -200,7 +200,7 @@ run_tally job (Ok c) a b (Ok tally) law begins sound fits again fresh along step
         by_mode job.mode (((start_of a).journal ≡ b.reads Journal) ⊎ (¬ IsHeld (start_of a).journal))
         (λ mode. inr (fresh mode)) (λ mode. inl (sym (ap (λ (f : Dev → List ℕ). f Journal) (again mode).reads))) in
     steps (start_of a) (along None)
-    (law job (start_of a) c (b.reads Target) (b.reads Journal) (λ source. stands_at job source (start_of a) c b sound fits (along source)) same)
+    (law job (start_of a) c (b.reads Target) (b.reads Journal) (λ source. stands_at job source (start_of a) c b sound fits (along source)) begins.first same)
 
 pub run_work : (job : CopyJob) → UnitsAreMapped → IsCopyJob job → 4096 + 4 * (80 + job.id.units + job.id.ranges) + most_steps job ≤ most_work job
 run_work job law is = omega (arith, law job.map job.id.unit is.of_map.map is.of_map.unit)

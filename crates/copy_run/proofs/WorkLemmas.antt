@@ -37,7 +37,7 @@ first_more us i j more =
 spent_more : (job : CopyJob) (i j r s : ℕ) → i ≤ j → r ≤ s → spent job i r + 1024 * ((j + s) - (i + r)) ≤ spent job j s
 spent_more job i j r s units ranges = omega (arith, first_more (units_of job.map job.id.unit) i j units, units, ranges)
 
-some_span : Span
+pub some_span : Span
 some_span = record { at = 0; len = 0 }
 
 module _ (job : CopyJob) (c : Course) (is : IsCopyJob job) (course : IsCourse job c) where
@@ -60,7 +60,7 @@ module _ (job : CopyJob) (c : Course) (is : IsCopyJob job) (course : IsCourse jo
   spent_within = omega (arith, unit_within, range_within, sum_by-take-le (λ (u : Span). u.len) (units_of job.map job.id.unit) c.unit)
 
   -- the present unit, where there is one
-  unit_there : IsInside job c → IsUnitAt job.id job.map c.unit (get_or (units_of job.map job.id.unit) c.unit some_span)
+  pub unit_there : IsInside job c → IsUnitAt job.id job.map c.unit (get_or (units_of job.map job.id.unit) c.unit some_span)
   unit_there inside = slice_get-get_or (units_of job.map job.id.unit) c.unit some_span (omega (arith, inside_below job c is course inside, is.of_map.units))
 
   unit_spent : IsInside job c → spent job c.unit c.range + (1024 + (get_or (units_of job.map job.id.unit) c.unit some_span).len) ≡ spent job (c.unit + 1) c.range
@@ -102,7 +102,7 @@ module _ (job : CopyJob) (c : Course) (is : IsCopyJob job) (course : IsCourse jo
       let more : Costs 1024 mid new = named in
       let end : c.unit ≡ first_of (rows_in job) (c.range + 1) = (range_next job c course r is_next).behind.end in
       let low : first_of (rows_in job) d.range ≤ d.unit = next.position.low in
-      let later : c.range < d.range = to.later in
+      let later : c.range < d.range = to.0.later in
       let rise : first_of (rows_in job) (c.range + 1) ≤ first_of (rows_in job) d.range = first_rises (rows_in job) (c.range + 1) d.range (omega (arith, later)) in
       let unit : c.unit ≤ d.unit = omega (arith, end, low, rise) in
       costs_so (costs_then first more) (omega (arith, spent_more job c.unit d.unit c.range d.range unit (omega (arith, later)), unit, later))

@@ -14,8 +14,9 @@ use Rattle.copier.specs.declared.faults.CopyFault.{CopyFault}
 use Rattle.copier_course.specs.declared.jobs.CopyJob.{CopyJob}
 use Rattle.copy_run.proofs.OpenLemmas.{open_answer, open_cause, open_cleared, open_outcome, run_cause, run_keeps, run_narrow, run_opens, run_outcome, run_own, run_since, run_tally, run_unwritten, run_work, was_opened, window_same}
 use Rattle.copy_run.proofs.PoolLemmas.{run_free}
+use Rattle.copy_run.proofs.ReadLemmas.{open_read}
 use Rattle.copy_run.specs.Faults.{IsRunFault}
-use Rattle.copy_run.specs.Runs.{OpensFor, RunHasOutcome, RunIsDone, RunKeepsSince}
+use Rattle.copy_run.specs.Runs.{OpensFor, RunHasOutcome, RunIsDone, RunKeepsSince, TellsFile}
 use Rattle.copy_run.specs.declared.running.Tally.{Tally}
 use Rattle.copy_run.specs.Steps.{IsLastFault, StepsAreTallied, StepsHaveOutcome, StepsStayNear, most_steps}
 use Rattle.copy_run.proofs.running.copy_all.Goals as goal
@@ -373,3 +374,17 @@ returns-clause-free g c =
     let copier = c.in_ok-copier.copier in
     ap (λ (p : Buffers). free_of p) c.close.ensures ∙
     run_free copier c.take_steps-answer.new.copier.lease.slot c.args.pool.now c.«open».new.pool c.take_steps-answer.new.pool c.in_ok-copier.ensures.pool c.take_steps-answer.ensures.pool (ap (λ (l : Held). l.slot) c.take_steps-answer.ensures.lease)
+
+pub returns-in_err-copier-clause-read : goal.returns-in_err-copier-clause-read
+returns-in_err-copier-clause-read g c told =
+    let fault = c.in_err-copier.field-0.0 in
+    let same : c.from_residual.result ≡ Err fault = search rules in
+    let job = c.args.job.now in
+    let file = g.F.Files.file c.args.files.now job.source in
+    let a = g.B.Bench.disk c.args.bench.now in
+    subst (λ (r : Result Tally CopyFault). TellsFile file r) (sym same)
+    (open_read g.B.Bench.told file job (a.reads Target) (a.reads Journal) (g.B.Bench.meter c.args.bench.now) (g.B.Bench.meter c.«open».new.bench) fault c.in_err-copier.ensures.cause)
+
+pub returns-clause-read : goal.returns-clause-read
+returns-clause-read g c told =
+    subst (λ (j : CopyJob). TellsFile (g.F.Files.file c.args.files.now j.source) c.take_steps-answer.result) c.in_ok-copier.ensures.begins.of_job (c.take_steps-answer.ensures.read told)

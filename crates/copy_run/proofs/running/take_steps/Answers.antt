@@ -21,8 +21,9 @@ use Rattle.copy_run.proofs.AnswerLemmas.{done_outcome, last_cause, last_cleared,
 use Rattle.copy_run.proofs.CountLemmas.{all_counted, counted_on, few_begins, few_counted, fewer_left, none_counted}
 use Rattle.copy_run.proofs.ImageLemmas.{at_first, going_begins, going_on, near_then, own_then, since_then, under_way, way_on}
 use Rattle.copy_run.proofs.PoolLemmas.{buffer_stays, no_use, uses_then}
+use Rattle.copy_run.proofs.ReadLemmas.{last_read}
 use Rattle.copy_run.proofs.WorkLemmas.{spent_at_last, spent_on, spent_when_done}
-use Rattle.copy_run.specs.Runs.{RunKeepsSince}
+use Rattle.copy_run.specs.Runs.{RunKeepsSince, TellsFile}
 use Rattle.copy_run.specs.Steps.{AreCounted, IsLastFault, IsUnderWay, StepsAreTallied, StepsHaveOutcome, StepsStayNear, most_steps, range_in, spent, unit_in}
 use Rattle.copy_run.specs.declared.running.Tally.{Tally}
 use Rattle.copy_run.proofs.running.take_steps.Goals as goal
@@ -318,3 +319,15 @@ steps-smaller g c =
     let next = c.step.new.self.progress in
     subst (λ (j : CopyJob). left_of j next < left_of c.steps.copier.job c.steps.copier.progress) (sym c.step.ensures.job)
     (fewer_left c.steps.copier.job c.steps.copier.progress next c.in_ok-step.step c.in_default.not-Done c.in_ok-step.ensures.fewer)
+
+pub returns-in_err-step-clause-read : goal.returns-in_err-step-clause-read
+returns-in_err-step-clause-read g c told =
+    let fault = c.in_err-step.field-0.0 in
+    let same : c.from_residual.result ≡ Err fault = search rules in
+    let inv = c.steps.invariant in
+    let tree = g.F.Files.file c.steps.files in
+    let here = last_read g.B.Bench.told tree c.steps.copier.job (g.B.Bench.disk c.steps.bench) (g.F.Files.counts c.steps.files) (g.F.Files.counts c.step.new.files)
+        (g.B.Bench.meter c.steps.bench) (g.B.Bench.meter c.step.new.bench) c.steps.copier.progress fault inv.going inv.sound
+        (c.in_err-step.ensures.source told) c.in_err-step.ensures.cause in
+    at_first (λ (t : Tree) (j : CopyJob). TellsFile (t j.source) c.from_residual.result) inv.same_files inv.of_job
+    (subst (λ (r : Result Tally CopyFault). TellsFile (tree c.steps.copier.job.source) r) (sym same) here)

@@ -11,16 +11,16 @@ ghost use Rattle.bench.specs.declared.Dev.{Dev};
 ghost use Rattle.job_stages.specs.Printing.{Prints};
 ghost use Rattle.map_source.specs.Said.{map_said};
 ghost use Rattle.verify_job.specs.Devices.{IsBounded, work_said};
-ghost use Rattle.image_jobs.specs.Asked.{named};
-ghost use Rattle.image_jobs.specs.Devices.{AreAttached};
-ghost use Rattle.image_jobs.specs.Printed.{IsRefusal, Reports};
-ghost use Rattle.image_jobs.specs.VerifyArm.{Compares, VerifyAnswers, VerifyCause, VerifyCompletes, source_answer};
-ghost use Rattle.image_jobs.specs.VerifyArm.{verify_answer, verify_lines};
+ghost use Rattle.device_commands.specs.Devices.{named};
+ghost use Rattle.device_commands.specs.Devices.{AreAttached};
+ghost use Rattle.job_answers.specs.Printed.{IsRefusal, Reports};
+ghost use Rattle.device_commands.specs.VerifyArm.{Compares, VerifyAnswers, VerifyCause, VerifyCompletes, source_answer};
+ghost use Rattle.device_commands.specs.VerifyArm.{verify_answer, verify_lines};
 
-use crate::printing::{refuse, reported};
 use answer_lines::{Answer, LINE_ROOM, Report, verified_line};
 use base_fields::Name;
 use bench::Bench;
+use job_answers::{refuse, reported};
 use map_source::SourceFault;
 use outside::{Files, PrintErr, Printer};
 use std::alloc::Global;
@@ -80,7 +80,7 @@ fn print_verified<P: Printer>(ranges: u64, out: &mut P) -> Result<(), PrintErr>
     Ok(())
 }
 
-fn answer_of_source(map: Name, fault: SourceFault) -> Answer
+pub fn answer_of_source(map: Name, fault: SourceFault) -> Answer
     ensures answer { result ≡ source_answer map fault }
     ensures refusal { IsRefusal result }
 {

@@ -23,12 +23,13 @@ use Rattle.verify_job.specs.Devices.{IsAttachedOr}
 use Rattle.verify_job.specs.Faults.{IsShown}
 use Rattle.verify_job.specs.declared.faults.VerifyJobFault.{VerifyJobFault}
 use Rattle.verify_job.specs.declared.faults.VerifyJobFault.TheVariants as fault
-use Rattle.image_jobs.proofs.SaidLemmas.{ok_and}
-use Rattle.image_jobs.specs.Asked.{named}
-use Rattle.image_jobs.specs.Devices.{AreAttached, IsAttachedAs, IsNamedAsBefore}
-use Rattle.image_jobs.specs.Printed.{IsRefusal, Reports, reported_by}
-use Rattle.image_jobs.specs.VerifyArm.{Compares, VerifyAnswers, VerifyCause, VerifyCompletes, compared_by, compared_with, source_answer}
-use Rattle.image_jobs.specs.VerifyArm.{source_wanted, verified_lines, verify_answer, verify_expects, verify_lines, verify_says}
+use Rattle.job_answers.proofs.SaidLemmas.{ok_and}
+use Rattle.device_commands.specs.Devices.{named}
+use Rattle.copy_job.specs.Devices.{IsAttachedAs, IsNamedAsBefore}
+use Rattle.device_commands.specs.Devices.{AreAttached}
+use Rattle.job_answers.specs.Printed.{IsRefusal, Reports, reported_by}
+use Rattle.device_commands.specs.VerifyArm.{Compares, VerifyAnswers, VerifyCause, VerifyCompletes, compared_by, compared_with, source_answer}
+use Rattle.device_commands.specs.VerifyArm.{source_wanted, verified_lines, verify_answer, verify_expects, verify_lines, verify_says}
 
 -- ---- a refusal
 

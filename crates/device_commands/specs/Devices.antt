@@ -1,26 +1,19 @@
 -- The devices of a command: the names that they may have, and those that they have afterwards.
 use Rattle.std.specs.Prelude.{◌≡◌, ◌⊎◌, ℕ, List, Option, Some, None}
 use Rattle.std.specs.Option.{ForSome}
-use Rattle.bench.specs.Disk.{Disk, Looked, StillLeaves}
-use Rattle.bench.specs.Meter.{HasNoOther, IsAttached, Meter, of_device}
+use Rattle.bench.specs.Meter.{HasNoOther, Meter, of_device}
 use Rattle.bench.specs.declared.Dev.{Dev}
 use Rattle.bench.specs.declared.Dev.TheVariants.{Journal, Target}
-use Rattle.image_jobs.specs.declared.request.DeviceNames.{DeviceNames}
+use Rattle.copy_job.specs.Devices.{IsAttachedAs, IsNamedAsBefore}
+use Rattle.device_commands.specs.declared.names.DeviceNames.{DeviceNames}
 
 -- each device has no name or the command's
 pub record MayAttach (names : DeviceNames) (meter : Meter) : Type 0 where
   pub target : ForSome names.target (HasNoOther meter Target)
   pub journal : ForSome names.journal (HasNoOther meter Journal)
 
--- it is attached and named as before
-pub record IsNamedAsBefore (dev : Dev) (old new : Meter) : Type 0 where
-  pub attached : of_device dev new.attached ≡ of_device dev old.attached
-  pub name : of_device dev new.name ≡ of_device dev old.name
-
--- it is attached under this name
-pub record IsAttachedAs (dev : Dev) (given : List ℕ) (meter : Meter) : Type 0 where
-  pub attached : IsAttached meter dev
-  pub name : of_device dev meter.name ≡ Some given
+abbrev pub named : Option (List ℕ) → Option (List ℕ) → DeviceNames
+named target journal = record { target = target; journal = journal }
 
 abbrev pub attached_by : Dev → Option (List ℕ) → Meter → Meter → Type 0
 attached_by dev None old new = IsNamedAsBefore dev old new

@@ -1,5 +1,5 @@
 use Rattle.job_stages.proofs.PrintingLemmas.{one_printed}
-use Rattle.image_jobs.proofs.verify_arm.report_verified.Goals as goal
+use Rattle.device_commands.proofs.verify_arm.report_verified.Goals as goal
 
 pub returns-clause-prints : goal.returns-clause-prints
 returns-clause-prints g c =

@@ -8,10 +8,10 @@ use Rattle.answer_lines.specs.declared.answer.Answer.{Answer}
 use Rattle.answer_lines.specs.declared.answer.Answer.TheVariants.{NoMemory}
 use Rattle.answer_lines.specs.declared.answer.Report.{Report}
 use Rattle.job_stages.specs.Stages.{Gives, Refuses}
-use Rattle.image_jobs.specs.Answering.{IsCopied, is_counted, is_fault}
-use Rattle.image_jobs.specs.Printed.{HasError, IsRefusal, Reports, reported_by}
-use Rattle.image_jobs.specs.Said.{IsCausedBy, IsExpected, Says, caused_by, expected_by, said_lines, said_lines_by, says_by}
-use Rattle.image_jobs.specs.Said.{wanted_lines}
+use Rattle.job_answers.specs.Printed.{IsCopied, is_counted, is_fault}
+use Rattle.job_answers.specs.Printed.{HasError, IsRefusal, Reports, reported_by}
+use Rattle.job_answers.specs.Said.{IsCausedBy, IsExpected, Says, caused_by, expected_by, said_lines, said_lines_by, says_by}
+use Rattle.job_answers.specs.Said.{wanted_lines}
 use Rattle.outside.specs.Counts.{Rose}
 
 -- ---- stages

@@ -6,7 +6,7 @@ use Rattle.answer_lines.specs.Kind.{Kind, Finished, LineFailed, Counted, Refused
 use Rattle.answer_lines.specs.declared.answer.Answer.{Answer}
 use Rattle.answer_lines.specs.declared.answer.Answer.TheVariants.{NoMemory}
 use Rattle.answer_lines.specs.declared.answer.Report.{Report}
-use Rattle.image_jobs.specs.Answering.{IsCopied}
+use Rattle.job_answers.specs.Printed.{IsCopied}
 
 -- ---- the answer
 

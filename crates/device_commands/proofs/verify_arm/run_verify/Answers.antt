@@ -2,9 +2,9 @@ use Rattle.std.proofs.Common.{ℕ, List, Err, rules, subst}
 use Rattle.bench.specs.declared.Dev.TheVariants.{Target}
 use Rattle.map_source.specs.Said.{map_said}
 use Rattle.verify_job.specs.Answers.{MapAnswers, Verifies}
-use Rattle.image_jobs.proofs.SaidLemmas.{error_line}
-use Rattle.image_jobs.proofs.VerifyLemmas.{verify_compared, verify_completes, verify_refused}
-use Rattle.image_jobs.proofs.verify_arm.run_verify.Goals as goal
+use Rattle.job_answers.proofs.SaidLemmas.{error_line}
+use Rattle.device_commands.proofs.VerifyLemmas.{verify_compared, verify_completes, verify_refused}
+use Rattle.device_commands.proofs.verify_arm.run_verify.Goals as goal
 
 pub returns-in-Err-clause-answers : goal.returns-in-Err-clause-answers
 returns-in-Err-clause-answers g c = λ told.

@@ -19,7 +19,7 @@ use Rattle.verifier.specs.Checks.{IsDigestOf, IsFirstToDiffer, IsVerified, diges
 use Rattle.verify_job.specs.Faults.{IsShown}
 use Rattle.verify_job.specs.declared.faults.VerifyJobFault.{VerifyJobFault}
 use Rattle.verify_job.specs.declared.faults.VerifyJobFault.TheVariants as fault
-use Rattle.image_jobs.specs.Said.{IsCausedBy, said_lines}
+use Rattle.job_answers.specs.Said.{IsCausedBy, said_lines}
 
 -- ---- the answer of each fault
 

@@ -1,0 +1,5 @@
+-- lemmas
+pub mod ForgetLemmas
+pub mod LookLemmas
+pub mod RequestLemmas
+pub mod RunLemmas
