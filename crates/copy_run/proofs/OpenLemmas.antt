@@ -126,9 +126,9 @@ pub window_same : (job : CopyJob) (was : Progress) (a b : Disk) → BeginsIn job
 window_same job (Ok c) a b begins fits again w its = by_mode job.mode (c.window ≡ w)
     (λ fresh. begins.window fresh ∙ sym (its.fresh fresh))
     (λ mode.
-      let same : b.reads Journal ≡ a.reads Journal = ap (λ (f : Dev → List ℕ). f Journal) (again mode).reads in
-      let held : IsHeld (a.reads Journal) = subst IsHeld same fits.opened.held in
-      fits.marks.window ∙ ap window_of same ∙ sym (its.held mode held))
+    let same : b.reads Journal ≡ a.reads Journal = ap (λ (f : Dev → List ℕ). f Journal) (again mode).reads in
+    let held : IsHeld (a.reads Journal) = subst IsHeld same fits.opened.held in
+    fits.marks.window ∙ ap window_of same ∙ sym (its.held mode held))
 window_same job (Err fault) a b begins fits again w its = absurd begins
 
 -- ---- what the answer tells of the start
@@ -197,8 +197,8 @@ run_tally job was a b (Err fault) law begins sound fits again fresh along steps 
 run_tally job (Err kept) a b (Ok tally) law begins sound fits again fresh along steps = absurd begins
 run_tally job (Ok c) a b (Ok tally) law begins sound fits again fresh along steps =
     let same : ((start_of a).journal ≡ b.reads Journal) ⊎ (¬ IsHeld (start_of a).journal) =
-        by_mode job.mode (((start_of a).journal ≡ b.reads Journal) ⊎ (¬ IsHeld (start_of a).journal))
-        (λ mode. inr (fresh mode)) (λ mode. inl (sym (ap (λ (f : Dev → List ℕ). f Journal) (again mode).reads))) in
+    by_mode job.mode (((start_of a).journal ≡ b.reads Journal) ⊎ (¬ IsHeld (start_of a).journal))
+    (λ mode. inr (fresh mode)) (λ mode. inl (sym (ap (λ (f : Dev → List ℕ). f Journal) (again mode).reads))) in
     steps (start_of a) (along None)
     (law job (start_of a) c (b.reads Target) (b.reads Journal) (λ source. stands_at job source (start_of a) c b sound fits (along source)) begins.first same)
 

@@ -48,12 +48,12 @@ module _ (job : CopyJob) (c : Course) (is : IsCopyJob job) (course : IsCourse jo
   pub unit_within : c.unit ≤ job.id.units
   unit_within = ⊎_elim
       (λ (there : c.range < job.id.ranges).
-        let high : c.unit ≤ first_of (rows_in job) (c.range + 1) = course.position.high there in
-        let within : first_of (rows_in job) (c.range + 1) ≤ job.id.units = first_within job.id job.map (c.range + 1) is.of_map (omega (arith, there)) in
-        omega (arith, high, within))
+      let high : c.unit ≤ first_of (rows_in job) (c.range + 1) = course.position.high there in
+      let within : first_of (rows_in job) (c.range + 1) ≤ job.id.units = first_within job.id job.map (c.range + 1) is.of_map (omega (arith, there)) in
+      omega (arith, high, within))
       (λ (past : job.id.ranges ≤ c.range).
-        let end : c.unit ≡ job.id.units = course.position.end (omega (arith, past, range_within)) in
-        omega (arith, end))
+      let end : c.unit ≡ job.id.units = course.position.end (omega (arith, past, range_within)) in
+      omega (arith, end))
       (cases_lt c.range job.id.ranges)
 
   pub spent_within : spent job c.unit c.range ≤ most_steps job
@@ -75,7 +75,7 @@ module _ (job : CopyJob) (c : Course) (is : IsCopyJob job) (course : IsCourse jo
   row_few : IsBehind job c → units_in_range job c.range ≤ job.id.units
   row_few behind =
       let next : first_of (rows_in job) (c.range + 1) ≡ first_of (rows_in job) c.range + length (get_or (rows_in job) c.range []) =
-          first_next (rows_in job) c.range [] (omega (arith, behind.there, rows_length job.id job.map, is.of_map.ranges)) in
+      first_next (rows_in job) c.range [] (omega (arith, behind.there, rows_length job.id job.map, is.of_map.ranges)) in
       omega (arith, next, behind.end, unit_within)
 
   -- ---- a step
@@ -89,7 +89,7 @@ module _ (job : CopyJob) (c : Course) (is : IsCopyJob job) (course : IsCourse jo
       let unit : d.unit ≡ c.unit + 1 = ap (λ (x : Course). x.unit) to.same in
       let range : d.range ≡ c.range = ap (λ (x : Course). x.range) to.same in
       let most : spent job c.unit c.range + (1024 + u.len) ≡ spent job d.unit d.range = subst (λ (r : ℕ). spent job c.unit c.range + (1024 + u.len) ≡ spent job d.unit r) (sym range)
-          (subst (λ (n : ℕ). spent job c.unit c.range + (1024 + u.len) ≡ spent job n c.range) (sym unit) (unit_spent at.inside)) in
+      (subst (λ (n : ℕ). spent job c.unit c.range + (1024 + u.len) ≡ spent job n c.range) (sym unit) (unit_spent at.inside)) in
       costs_so (costs_then first more) (omega (arith, most))
   step_spent d (did.Kept k) old mid new next is_next to costs first =
       let named : CostsFor job (need.Kept k) (Ok (did.Kept k)) mid new = subst (λ (n : Need). CostsFor job n (Ok (did.Kept k)) mid new) is_next costs in

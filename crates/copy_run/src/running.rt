@@ -64,7 +64,6 @@ pub fn copy_all<F: Files, B: Bench>(
     ensures cleared { B.told → IfErr result (NoneIsLeft job.now (B.disk bench.new)) }
     ensures unwritten { B.told → IfErr result (λ fault. IsUnwritten fault → Looked (B.disk bench.old) (B.disk bench.new)) }
     ensures held { B.told → job.now.mode ≡ Mode.Fresh → IsHeld ((B.disk bench.old).reads Dev.Journal) → Looked (B.disk bench.old) (B.disk bench.new) }
-
     ensures read { F.told → TellsFile (F.file files.old job.now.source) result }
 
     // Told or not.
