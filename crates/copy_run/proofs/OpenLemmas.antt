@@ -23,7 +23,6 @@ use Rattle.copier.specs.Faults.{IsOpenFault, IsUnwritten, NoneIsLeft}
 use Rattle.copier.specs.declared.faults.CopyFault.{CopyFault}
 use Rattle.copier.specs.declared.faults.CopyFault.TheVariants.{TargetTooSmall, JournalHeld, NoJournal, JournalForeign, SourceShort, Missing, FileFault, DeviceFault, RangeDiffers, NoMemory}
 use Rattle.copier_course.specs.Courses.{IsCopyJob}
-use Rattle.copier_course.specs.declared.courses.Course.{Course}
 use Rattle.copier_course.specs.declared.jobs.CopyJob.{CopyJob}
 use Rattle.copy_tally.specs.Laws.{OpenedHaveNone, UnitsAreMapped}
 use Rattle.copy_run.proofs.AnswerLemmas.{failed_more}

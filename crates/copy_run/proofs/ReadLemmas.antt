@@ -1,6 +1,6 @@
 -- What a refusal tells of the source's file.
 use Rattle.std.proofs.Common.{◌≡◌, ℕ, ◌+◌, ◌≤◌, Bool, true, false, nat_le, nat_eq, List, [], length, take, drop, get_or, max, refl, arith, if◌then◌else◌}
-use Rattle.std.specs.Prelude.{Err, IfSome, None, Ok, Option, Result, Some}
+use Rattle.std.specs.Prelude.{Err, IfSome, None, Ok, Option, Some}
 use Rattle.base_fields.specs.declared.spans.Span.{Span}
 use Rattle.bench.specs.Disk.{Disk}
 use Rattle.bench.specs.Meter.{Meter}
@@ -8,7 +8,6 @@ use Rattle.block_map.specs.Units.{units_of}
 use Rattle.outside.specs.Counts.{Counts}
 use Rattle.outside.specs.Files.{Tree}
 use Rattle.outside.specs.Reading.{span_of}
-use Rattle.outside.specs.declared.reading.FillFault.{FillFault}
 use Rattle.outside.specs.declared.reading.FillFault.TheVariants as fill
 use Rattle.copier.proofs.NeedLemmas.{unit_next}
 use Rattle.copier.specs.Copiers.{IsSound, Progress}
@@ -17,10 +16,8 @@ use Rattle.copier.specs.Runs.{HasStepCause}
 use Rattle.copier.specs.Steps.{ReadsSource}
 use Rattle.copier.specs.declared.faults.CopyFault.{CopyFault}
 use Rattle.copier.specs.declared.faults.CopyFault.TheVariants.{TargetTooSmall, JournalHeld, NoJournal, JournalForeign, SourceShort, Missing, FileFault, DeviceFault, RangeDiffers, NoMemory}
-use Rattle.copier_course.specs.Courses.{need_of}
 use Rattle.copier_course.specs.declared.courses.Course.{Course}
 use Rattle.copier_course.specs.declared.jobs.CopyJob.{CopyJob}
-use Rattle.copier_course.specs.declared.jobs.Need.TheVariants as need
 use Rattle.copy_run.proofs.WorkLemmas.{some_span, unit_there}
 use Rattle.copy_run.specs.Runs.{TellsFile}
 use Rattle.copy_run.specs.Steps.{IsGoing}

@@ -1,10 +1,10 @@
 -- What the steps of a copier cost.
-use Rattle.std.proofs.Common.{◌≡◌, ◌⊎◌, ℕ, ◌+◌, ◌-◌, ◌*◌, ◌<◌, ◌≤◌, List, [], length, get_or, refl, ap, subst, sym, ◌∙◌, arith, ⊎_elim}
+use Rattle.std.proofs.Common.{◌≡◌, ℕ, ◌+◌, ◌-◌, ◌*◌, ◌<◌, ◌≤◌, List, [], length, get_or, refl, ap, subst, sym, arith, ⊎_elim}
 use Rattle.std.proofs.lemmas.Bool.{cases_lt}
 use Rattle.std.proofs.lemmas.List.{take-take}
 use Rattle.std.proofs.lemmas.List.Sums.{sum_by-take-le, sum_by_more}
 use Rattle.std.proofs.lemmas.Option.{slice_get-get_or}
-use Rattle.std.specs.Prelude.{Err, Ok, Result, Some, slice_index_or, sum_by, take}
+use Rattle.std.specs.Prelude.{Err, Ok, sum_by, take}
 use Rattle.base_fields.specs.declared.spans.Span.{Span}
 use Rattle.bench.proofs.MeterLemmas.{costs_so, costs_then}
 use Rattle.bench.specs.Meter.{Costs, Meter}
