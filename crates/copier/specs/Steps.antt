@@ -7,7 +7,7 @@ use Rattle.outside.specs.Reading.{span_of}
 use Rattle.outside.specs.declared.reading.FillFault.{FillFault}
 use Rattle.outside.specs.declared.reading.FillFault.TheVariants as fill
 use Rattle.copy_states.specs.Jobs.{IsUnitAt}
-use Rattle.copier_course.specs.Courses.{Checks}
+use Rattle.copier_course.specs.Courses.{Checks, IsAtFirst}
 use Rattle.copier_course.specs.declared.courses.Course.{Course}
 use Rattle.copier_course.specs.declared.jobs.CopyJob.{CopyJob}
 use Rattle.copier_course.specs.declared.jobs.Need.{Need}
@@ -38,11 +38,11 @@ IsForUnit k (Ok step) = step ≡ did.Unit k
 IsForUnit k (Err fault) = Unit {0}
 
 -- ---- where it leaves the copier
--- from one course to the next by a step
+-- from one course to the next by a step; behind a range it is the first unit of another
 abbrev pub Passes : CopyJob → Course → Course → Step → Type 0
 Passes job c d (did.Unit k) = IsPut job c d
 Passes job c d (did.Kept k) = IsKept c d
-Passes job c d (did.Range r) = Checks c d
+Passes job c d (did.Range r) = Checks c d × IsAtFirst job d
 Passes job c d did.Done = d ≡ c
 
 -- Ok takes the copier to its next course; a refusal is kept, and a kept one is answered again

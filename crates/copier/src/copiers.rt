@@ -78,6 +78,7 @@ impl<'a> Copier<'a> {
         ensures again { B.told → job.now.mode ≡ Mode.Again → Looked (B.disk bench.old) (B.disk bench.new) }
         ensures kept { B.told → IsHeld ((B.disk bench.old).reads Dev.Journal) → Looked (B.disk bench.old) (B.disk bench.new) }
         ensures unwritten { B.told → IfErr result (λ fault. IsUnwritten fault → Looked (B.disk bench.old) (B.disk bench.new)) }
+        ensures sound { IfOk result (λ copier. IsSound copier.job copier.progress) }
         ensures begins { IfOk result (HasBegun job.now) }
         ensures room { B.told → OnOk result (job.now.map.size ≤ length ((B.disk bench.old).reads Dev.Target)) }
         ensures new { B.told → job.now.mode ≡ Mode.Fresh → OnOk result (¬ IsHeld ((B.disk bench.old).reads Dev.Journal)) }
@@ -120,6 +121,7 @@ impl<'a> Copier<'a> {
         requires buffer { HasBuffer self.old pool.old }
         ensures job { self.new.job ≡ self.old.job }
         ensures lease { self.new.lease ≡ self.old.lease }
+        ensures sound { IsSound self.new.job self.new.progress }
         ensures since { B.told → StepKeepsSince F.told (F.file files.old self.old.job.source) self.old.job self.old.progress (B.disk bench.old) (B.disk bench.new) }
         ensures own { B.told → KeepsOwn self.old.job.id (B.disk bench.old) (B.disk bench.new) }
         ensures same_target { B.told → ¬ IsUnitNeed (next_of self.old.job self.old.progress) → SameTarget (B.disk bench.old) (B.disk bench.new) }

@@ -6,7 +6,8 @@ ghost use Rattle.bench.specs.Disk.{Looked, StillLeaves};
 ghost use Rattle.bench.specs.Meter.{Costs, HasNoOther};
 ghost use Rattle.copier.specs.Faults.{NoneIsLeft};
 ghost use Rattle.copy_opening.specs.declared.opening.Mode.{Mode};
-ghost use Rattle.copy_run.specs.Runs.{OpensFor, RunHasOutcome, RunIsDone, RunIsNarrow, RunIsTallied, RunKeepsMarks, RunKeepsSince};
+ghost use Rattle.copy_run.specs.Faults.{IsRunFault};
+ghost use Rattle.copy_run.specs.Runs.{OpensFor, RunHasOutcome, RunIsDone, RunIsNarrow, RunIsTallied, RunKeepsMarks, RunKeepsSince, TellsFile};
 ghost use Rattle.copy_stages.specs.Stages.{KeepsOwn};
 ghost use Rattle.journal_format.specs.Journals.{IsHeld, IsWindow};
 ghost use Rattle.outside.specs.Counts.{NoneFell};
@@ -53,6 +54,10 @@ pub fn copy_target<F: Files, B: Bench>(
     ensures tally { F.told → B.told → IfOk (copying_said (F.file files.old) request.now) (λ job. OfRun (RunIsTallied job (B.disk bench.old)) result) }
     ensures outcome { F.told → B.told → IfOk (copying_said (F.file files.old) request.now) (λ job. OfRun (RunHasOutcome F.told (F.file files.old job.source) job (B.disk bench.old)) result) }
     ensures cleared { F.told → B.told → IfOk (copying_said (F.file files.old) request.now) (λ job. OfRun (λ answer. IfErr answer (NoneIsLeft job (B.disk bench.new))) result) }
+
+    ensures read { F.told → IfOk (copying_said (F.file files.old) request.now) (λ job. OfRun (TellsFile (F.file files.old job.source)) result) }
+
+    ensures caused { F.told → IfOk (copying_said (F.file files.old) request.now) (λ job. OfRun (λ answer. IfErr answer (IsRunFault B.told job (B.disk bench.new) (F.counts files.old) (F.counts files.new) (B.meter bench.old) (B.meter bench.new))) result) }
 
     // What is left as it was, whatever the files tell.
     ensures unwritten { B.told → IfErr result (λ fault. IsUnwritten fault → Looked (B.disk bench.old) (B.disk bench.new)) }

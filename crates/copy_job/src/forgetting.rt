@@ -10,7 +10,7 @@ ghost use Rattle.copy_stages.specs.Stages.{KeepsOwn};
 ghost use Rattle.copy_states.specs.Standing.{Since};
 ghost use Rattle.journal_format.specs.Journals.{IsHeld};
 ghost use Rattle.journal_format.specs.declared.jobs.JobId.{JobId};
-ghost use Rattle.copy_job.specs.Devices.{AttachedOr, IsForgotten, WasHeld};
+ghost use Rattle.copy_job.specs.Devices.{AttachedOr, IsForgotten, IsNamedAsBefore, WasHeld};
 
 use bench::{Bench, BenchErr, Dev};
 use copy_journal::{JournalFault, forget};
@@ -27,6 +27,7 @@ pub fn forget_journal<B: Bench>(bench: &mut B, journal: &str) -> Result<bool, Be
     ensures same_target { B.told → (B.disk bench.new).reads Dev.Target ≡ (B.disk bench.old).reads Dev.Target }
     ensures cause { IsErr result → HasFailed Dev.Journal (B.meter bench.old) (B.meter bench.new) }
     ensures attached { AttachedOr Dev.Journal journal.now (B.meter bench.old) (B.meter bench.new) }
+    ensures other { IsNamedAsBefore Dev.Target (B.meter bench.old) (B.meter bench.new) }
     ensures bill { CostsOn Dev.Journal (2048 + length journal.now) (B.meter bench.old) (B.meter bench.new) }
 {
     bench.attach(Dev::Journal, journal)?;

@@ -1,6 +1,6 @@
 -- What a whole run of a copier does to its two devices, from opening to its answer: old is what they were, new what they
 -- are. The source's bytes are None where they aren't told.
-use Rattle.std.specs.Prelude.{◌≡◌, ◌≤◌, ℕ, List, length, Option, Some, Result, Ok, Err}
+use Rattle.std.specs.Prelude.{◌≡◌, ◌≤◌, ℕ, List, length, Option, None, Some, IfSome, Result, Ok, Err}
 use Rattle.bench.specs.declared.Dev.TheVariants.{Target, Journal}
 use Rattle.bench.specs.Disk.{Disk, EachPair, IsSettled, Keeps, Runs}
 use Rattle.journal_format.specs.Journals.{IsHeld, IsOpenedFor, window_of}
@@ -81,6 +81,20 @@ pub record HasTally (job : CopyJob) (start : Pair) (tally : Tally) : Type 0 wher
 abbrev pub RunIsTallied : CopyJob → Disk → Result Tally CopyFault → Type 0
 RunIsTallied job old (Ok tally) = HasTally job (start_of old) tally
 RunIsTallied job old (Err fault) = Unit {0}
+
+-- over told files: the source is missed only where it isn't there, and is said to be short only where it is
+abbrev pub TellsFile : Option (List ℕ) → Result Tally CopyFault → Type 0
+TellsFile file (Ok tally) = Unit {0}
+TellsFile file (Err (TargetTooSmall has needs)) = Unit {0}
+TellsFile file (Err (JournalHeld kept finished)) = Unit {0}
+TellsFile file (Err NoJournal) = Unit {0}
+TellsFile file (Err (JournalForeign kept given len)) = Unit {0}
+TellsFile file (Err (SourceShort at)) = IfSome file (λ s. length s ≤ at)
+TellsFile file (Err Missing) = file ≡ None
+TellsFile file (Err FileFault) = Unit {0}
+TellsFile file (Err (DeviceFault dev)) = Unit {0}
+TellsFile file (Err (RangeDiffers range want got)) = Unit {0}
+TellsFile file (Err NoMemory) = Unit {0}
 
 -- ---- its outcome
 -- the one outcome of this start and source, where no call failed and the copy was opened

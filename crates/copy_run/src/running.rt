@@ -1,4 +1,4 @@
-ghost use Rattle.std.specs.Prelude.{◌≡◌, ◌<◌, ◌≤◌, IfErr, OnErr};
+ghost use Rattle.std.specs.Prelude.{◌≡◌, ◌+◌, ◌^◌, ◌<◌, ◌≤◌, IfErr};
 ghost use Rattle.bench.specs.declared.Dev.{Dev};
 ghost use Rattle.bench.specs.Disk.{Looked};
 ghost use Rattle.bench.specs.Meter.{Costs, IsAttached, SameNames};
@@ -7,13 +7,18 @@ ghost use Rattle.region_pool.specs.Buffers.{free_of};
 ghost use Rattle.journal_format.specs.Journals.{IsHeld, IsWindow};
 ghost use Rattle.copy_opening.specs.declared.opening.Mode.{Mode};
 ghost use Rattle.copy_stages.specs.Stages.{KeepsOwn};
+ghost use Rattle.copier.specs.Beginnings.{BeginsIn};
+ghost use Rattle.copier.specs.Copiers.{Fits, IsSound};
 ghost use Rattle.copier.specs.Faults.{IsUnwritten, NoneIsLeft};
+ghost use Rattle.copier.specs.Pools.{HasBuffer, UsesSlot};
 ghost use Rattle.copier_course.specs.Courses.{IsCopyJob};
 ghost use Rattle.copy_run.specs.Faults.{IsRunFault, most_work};
-ghost use Rattle.copy_run.specs.Runs.{OpensFor, RunHasOutcome, RunIsDone, RunIsNarrow, RunIsTallied, RunKeepsMarks, RunKeepsSince};
+ghost use Rattle.copy_run.specs.Runs.{OpensFor, RunHasOutcome, RunIsDone, RunIsNarrow, RunIsTallied, RunKeepsMarks, RunKeepsSince, TellsFile};
+ghost use Rattle.copy_run.specs.Steps.{Adds, IsLastFault, StepsAreTallied, StepsHaveOutcome, StepsStayNear, most_steps};
 
 use bench::Bench;
 use copier::{Copier, CopyFault, CopyJob, Step};
+use copy_tally::{runs_are_tallied, units_are_mapped};
 use outside::Files;
 use region_pool::Pool;
 use std::alloc::Global;
@@ -59,6 +64,7 @@ pub fn copy_all<F: Files, B: Bench>(
     ensures cleared { B.told → IfErr result (NoneIsLeft job.now (B.disk bench.new)) }
     ensures unwritten { B.told → IfErr result (λ fault. IsUnwritten fault → Looked (B.disk bench.old) (B.disk bench.new)) }
     ensures held { B.told → job.now.mode ≡ Mode.Fresh → IsHeld ((B.disk bench.old).reads Dev.Journal) → Looked (B.disk bench.old) (B.disk bench.new) }
+    ensures read { F.told → TellsFile (F.file files.old job.now.source) result }
 
     // Told or not.
     ensures cause { IfErr result (IsRunFault B.told job.now (B.disk bench.new) (F.counts files.old) (F.counts files.new) (B.meter bench.old) (B.meter bench.new)) }
@@ -68,6 +74,8 @@ pub fn copy_all<F: Files, B: Bench>(
     ensures same_names { SameNames (B.meter bench.old) (B.meter bench.new) }
     ensures free { free_of pool.new ≡ free_of pool.old }
 {
+    runs_are_tallied();
+    units_are_mapped();
     let mut copier = Copier::open(alloc, bench, job, pool)?;
     let answer = take_steps(files, bench, pool, &mut copier, job.id.units);
     copier.close(pool);
@@ -82,15 +90,53 @@ fn take_steps<F: Files, B: Bench>(
     copier: &mut Copier,
     units: u64,
 ) -> Result<Tally, CopyFault>
+    requires target { IsAttached (B.meter bench.old) Dev.Target }
+    requires journal { IsAttached (B.meter bench.old) Dev.Journal }
+    requires units { units ≡ copier.old.job.id.units }
+    requires sound { IsSound copier.old.job copier.old.progress }
+    requires begins { BeginsIn copier.old.job copier.old.progress }
+    requires fits { B.told → Fits copier.old.job copier.old.progress (B.disk bench.old) }
+    requires buffer { HasBuffer copier.old pool.old }
+    ensures since { B.told → RunKeepsSince F.told (F.file files.old copier.old.job.source) copier.old.job (B.disk bench.old) (B.disk bench.new) }
+    ensures own { B.told → KeepsOwn copier.old.job.id (B.disk bench.old) (B.disk bench.new) }
+    ensures near { B.told → StepsStayNear F.told (F.file files.old copier.old.job.source) copier.old.job copier.old.progress (B.disk bench.old) (B.disk bench.new) }
+    ensures done { B.told → RunIsDone copier.old.job (B.disk bench.new) result }
+    ensures tally { B.told → StepsAreTallied copier.old.job copier.old.progress (B.disk bench.old) result }
+    ensures outcome { B.told → StepsHaveOutcome F.told (F.file files.old copier.old.job.source) copier.old.job copier.old.progress (B.disk bench.old) result }
+    ensures cleared { B.told → IfErr result (NoneIsLeft copier.old.job (B.disk bench.new)) }
+    ensures read { F.told → TellsFile (F.file files.old copier.old.job.source) result }
+    ensures cause { IfErr result (IsLastFault B.told copier.old.job (B.disk bench.new) (F.counts files.old) (F.counts files.new) (B.meter bench.old) (B.meter bench.new)) }
+    ensures none_fell { NoneFell (F.counts files.old) (F.counts files.new) }
+    ensures same_files { F.file files.new ≡ F.file files.old }
+    ensures bill { Costs (most_steps copier.old.job) (B.meter bench.old) (B.meter bench.new) }
+    ensures same_names { SameNames (B.meter bench.old) (B.meter bench.new) }
+    ensures lease { copier.new.lease ≡ copier.old.lease }
+    ensures pool { UsesSlot copier.old.lease.slot pool.old pool.new }
 {
-    let mut written = 0;
-    let mut kept = 0;
-    loop {
+    runs_are_tallied();
+    let mut tally = Tally {
+        units,
+        written: 0,
+        kept: 0,
+    };
+    'steps: loop {
         match copier.step(files, bench, pool)? {
-            Step::Unit { k: _ } => written += 1,
-            Step::Kept { k: _ } => kept += 1,
-            Step::Range { r: _ } => {}
-            Step::Done => return Ok(Tally { units, written, kept }),
+            Step::Done => return Ok(tally),
+            step => tally.add(step),
+        }
+    }
+}
+
+impl Tally {
+    /// Counts what a step did.
+    fn add(&mut self, step: Step)
+        requires { self.old.written + self.old.kept < 2 ^ 63 }
+        ensures { Adds step self.old self.new }
+    {
+        match step {
+            Step::Unit { k: _ } => self.written += 1,
+            Step::Kept { k: _ } => self.kept += 1,
+            Step::Range { r: _ } | Step::Done => {}
         }
     }
 }

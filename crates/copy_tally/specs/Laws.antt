@@ -1,21 +1,18 @@
 -- What each step of a copier adds to the numbers of its run, over plain values: c is where it stood, d where it stands.
-use Rattle.std.specs.Prelude.{◌≡◌, ◌⊎◌, ℕ, ◌+◌, ◌<◌, ◌≤◌, List, Option, Some, None, take, sum_by}
+use Rattle.std.specs.Prelude.{◌≡◌, ◌⊎◌, ℕ, ◌+◌, List, Option}
 use Rattle.base_fields.specs.Numbers.{IsPowerBetween}
 use Rattle.block_map.specs.Maps.{IsMap}
-use Rattle.block_map.specs.Units.{units_of}
 use Rattle.block_map.specs.declared.maps.BlockMap.{BlockMap}
-use Rattle.journal_format.specs.Journals.{IsHeld}
+use Rattle.journal_format.specs.Journals.{IsHeld, IsOpenedFor}
 use Rattle.copy_states.specs.Along.{Along}
 use Rattle.copy_states.specs.Starts.{Pair}
-use Rattle.copier.specs.Steps.{Passes}
+use Rattle.copier.specs.Steps.{Passes, needed}
 use Rattle.copier.specs.declared.steps.Step.{Step}
 use Rattle.copier.specs.declared.steps.Step.TheVariants as did
-use Rattle.copier_course.specs.Courses.{IsCopyJob, IsCourse, need_of, position_of}
+use Rattle.copier_course.specs.Courses.{IsAtFirst, IsCopyJob, IsCourse, need_of, position_of}
 use Rattle.copier_course.specs.declared.courses.Course.{Course}
 use Rattle.copier_course.specs.declared.jobs.CopyJob.{CopyJob}
-use Rattle.copier.specs.Steps.{needed}
 use Rattle.copier_moves.specs.Fitting.{KeepsMarks}
-use Rattle.journal_format.specs.Journals.{IsOpenedFor}
 use Rattle.verifier.specs.Checks.{mapped_bytes}
 use Rattle.copy_tally.specs.Tallies.{IsTallied, IsTallyOf, unit_bytes}
 
@@ -28,11 +25,11 @@ pub record Stands (job : CopyJob) (source : Option (List ℕ)) (start : Pair) (c
   pub marks : KeepsMarks job.id j c
   pub along : Along job.id job.map source start c.window (position_of c) t j
 
--- a copier that was just opened, whatever the source is, on a journal that reads as at the start or wasn't held then,
--- has neither written nor kept a unit
+-- a copier that was just opened, at a range's first unit, whatever the source is, on a journal that reads as at the start
+-- or wasn't held then, has neither written nor kept a unit
 abbrev pub OpenedHaveNone : Type 0
 OpenedHaveNone = (job : CopyJob) (start : Pair) (c : Course) (t j : List ℕ) →
-    ((source : Option (List ℕ)) → Stands job source start c t j) →
+    ((source : Option (List ℕ)) → Stands job source start c t j) → IsAtFirst job c →
     (start.journal ≡ j) ⊎ (¬ IsHeld start.journal) →
     IsTallied job.id job.map start c.unit 0 0
 

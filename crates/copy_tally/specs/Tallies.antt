@@ -1,6 +1,5 @@
 -- How many units a run has written, and how many it has kept, counted from its start.
 use Rattle.std.specs.Prelude.{◌≡◌, ◌↔◌, ℕ, ◌<◌, List, AllPairs, Contains, length, sum_by}
-use Rattle.base_fields.specs.declared.spans.Span.{Span}
 use Rattle.block_map.specs.Units.{units_of}
 use Rattle.block_map.specs.declared.maps.BlockMap.{BlockMap}
 use Rattle.journal_format.specs.declared.jobs.JobId.{JobId}

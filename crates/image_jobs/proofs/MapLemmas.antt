@@ -28,13 +28,14 @@ use Rattle.placement_rules.specs.declared.faults.PlaceFault.{PlaceFault}
 use Rattle.placement_rules.specs.declared.faults.PlaceFault.TheVariants as place
 use Rattle.range_digest.specs.declared.digests.DigestFault.TheVariants as digest
 use Rattle.image_plan.specs.Faults.{is_memory}
-use Rattle.image_jobs.proofs.SaidLemmas.{refuses_as}
-use Rattle.image_jobs.specs.Answering.{IsCopied, is_counted, place_answer}
+use Rattle.job_answers.proofs.SaidLemmas.{refuses_as}
+use Rattle.job_answers.specs.Printed.{IsCopied, is_counted}
+use Rattle.image_jobs.specs.Answering.{place_answer}
 use Rattle.image_jobs.specs.BuildArm.{IsShown}
 use Rattle.image_jobs.specs.MapArm.{HasMapped, IsMapShown, MapAnswers, MapCause, MapCompletes, Maps, image_wanted, is_mapped}
-use Rattle.image_jobs.specs.MapArm.{map_cause_by, map_lines, map_lines_by, mapped_by, mapping_answer}
-use Rattle.image_jobs.specs.Printed.{HasError, IsRefusal, Reports, reported_by, reported_of}
-use Rattle.image_jobs.specs.Said.{IsExpected, Says, expected_by, says_by}
+use Rattle.image_jobs.specs.MapArm.{map_cause_by, mapped_by, mapping_answer}
+use Rattle.job_answers.specs.Printed.{HasError, IsRefusal, Reports, reported_by, reported_of}
+use Rattle.job_answers.specs.Said.{IsExpected, Says, expected_by, says_by}
 use Rattle.image_jobs.specs.declared.request.MapRequest.{MapRequest}
 
 -- ---- the answer of each fault
@@ -118,29 +119,3 @@ refused_made wanted mapping after Refused error = tt
 pub map_not_made : (wanted : Result Image Answer) (mapping : MapRequest) (after : Tree) (answer : Answer) → IsRefusal answer
     → HasMapped wanted mapping after answer
 map_not_made wanted mapping after answer error = refused_made wanted mapping after (kind_of answer) error
-
-refused_line : (answer : Answer) (k : Kind) → HasError k → map_lines_by answer k ≡ error_text answer ∷ []
-refused_line answer (Finished said) error = absurd error
-refused_line answer LineFailed error = absurd error
-refused_line answer Counted error = refl
-refused_line answer Refused error = refl
-
-pub map_error_line : (answer : Answer) → IsRefusal answer → map_lines answer ≡ error_text answer ∷ []
-map_error_line answer error = refused_line answer (kind_of answer) error
-
--- ---- the line of a map that is written
-
--- where its one call printed it, it is the answer's line; where it didn't, the answer has none
-pub map_printed : (ranges blocks : ℕ) (before now : Option (List (List ℕ))) (faults_before faults_now : ℕ) (r : Result Unit PrintErr)
-    (answer : Answer) → answer ≡ reported_of r (report.Mapped ranges blocks) → OnOk r (now ≡ added before (mapped_text ranges blocks))
-    → OnErr r (now ≡ before) → OnErr r (Rose faults_before faults_now) → Prints (map_lines answer) before now faults_before faults_now
-map_printed ranges blocks before now faults_before faults_now (Ok done) answer is printed stays rose =
-    subst (λ (a : Answer). Prints (map_lines a) before now faults_before faults_now) (sym is) (record {
-      front = record { printed = 1; same = printed };
-      whole = λ steady. printed;
-    })
-map_printed ranges blocks before now faults_before faults_now (Err failed) answer is printed stays rose =
-    subst (λ (a : Answer). Prints (map_lines a) before now faults_before faults_now) (sym is) (record {
-      front = record { printed = 0; same = stays };
-      whole = λ steady. stays;
-    })

@@ -28,10 +28,12 @@ use Rattle.job_stages.specs.Stages.{Refuses}
 use Rattle.placement_rules.specs.declared.faults.PlaceFault.{PlaceFault}
 use Rattle.placement_rules.specs.declared.faults.PlaceFault.TheVariants as place
 use Rattle.image_jobs.proofs.LineLemmas.{report_is_done}
-use Rattle.image_jobs.specs.Answering.{IsCopied, build_answer, conf_answer, graph_answer, is_counted, place_answer}
+use Rattle.job_answers.specs.Printed.{IsCopied, is_counted}
+use Rattle.image_jobs.specs.Answering.{build_answer, conf_answer, graph_answer, place_answer}
 use Rattle.image_jobs.specs.Build.{with_paths}
 use Rattle.image_jobs.specs.BuildArm.{BuildChanges, IsShown, build_lines, done_lines, lines_by}
-use Rattle.image_jobs.specs.Printed.{HasError, IsRefusal, Reports, report_lines, reported_by}
+use Rattle.job_answers.specs.Printed.{HasError, IsRefusal, Reports, reported_by}
+use Rattle.image_jobs.specs.Printed.{report_lines}
 use Rattle.image_jobs.specs.declared.request.Request.{Request}
 
 -- ---- the causes of a fault of the building

@@ -10,10 +10,12 @@ use Rattle.block_map.specs.Maps.{IsMap}
 use Rattle.block_map.specs.declared.maps.BlockMap.{BlockMap}
 use Rattle.list_job.specs.declared.fault.ListFault.TheVariants as list
 use Rattle.verify_job.specs.Devices.{IsBounded, most_work}
+use Rattle.copy_job.specs.declared.faults.CopyJobFault.TheVariants as copy
 use Rattle.verify_job.specs.declared.faults.VerifyJobFault.TheVariants as verify
-use Rattle.image_jobs.specs.Run.{HasBound, HasCause}
+use Rattle.image_jobs.specs.OnDevices.{HasBound}
+use Rattle.image_jobs.specs.Run.{HasCause}
 use Rattle.image_jobs.specs.declared.request.Command.{Command}
-use Rattle.image_jobs.specs.declared.request.Command.TheVariants.{Build, Map, Verify, List as Listed}
+use Rattle.image_jobs.specs.declared.request.Command.TheVariants.{Build, Map, Copy, Forget, Verify, List as Listed}
 
 -- want of memory needs no count
 pub memory_caused : (command : Option Command) (before now : Counts) (old new : Meter) (lines_before lines_now : ℕ)
@@ -21,6 +23,9 @@ pub memory_caused : (command : Option Command) (before now : Counts) (old new : 
 memory_caused None before now old new lines_before lines_now = tt
 memory_caused (Some (Build request)) before now old new lines_before lines_now = tt
 memory_caused (Some (Map mapping)) before now old new lines_before lines_now = inl tt
+memory_caused (Some (Copy request)) before now old new lines_before lines_now =
+    record { fault = copy.NoMemory; shown = tt; is = inl refl }
+memory_caused (Some (Forget journal)) before now old new lines_before lines_now = inl refl
 memory_caused (Some (Verify map target)) before now old new lines_before lines_now =
     record { fault = verify.NoMemory; shown = tt; is = inl refl }
 memory_caused (Some (Listed image)) before now old new lines_before lines_now =

@@ -91,19 +91,3 @@ build_answer graph (build.Plan image fault) = plan_answer graph image fault
 build_answer graph (build.Compose image fault) = compose_answer graph image fault
 build_answer graph (build.Measure image fault) = length_answer graph image fault
 build_answer graph build.NoMemory = answer.NoMemory
-
--- ---- answers
-
--- the wanted answer, or memory was refused for a name in it
-abbrev pub IsCopied : Answer → Answer → Type 0
-IsCopied wanted got = (got ≡ wanted) ⊎ (got ≡ answer.NoMemory)
-
-abbrev pub is_fault : Kind → Bool
-is_fault (Finished said) = false
-is_fault LineFailed = false
-is_fault Counted = true
-is_fault Refused = false
-
--- a call failed or memory was refused
-abbrev pub is_counted : Answer → Bool
-is_counted answer = is_fault (kind_of answer)

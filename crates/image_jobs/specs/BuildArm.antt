@@ -21,7 +21,8 @@ use Rattle.build_laws.specs.Order.{ordered}
 use Rattle.image_graph.specs.declared.images.Graph.{Graph}
 use Rattle.image_specs.specs.Specs.{full_names}
 use Rattle.image_specs.specs.declared.specs.ImageSpec.{ImageSpec}
-use Rattle.image_jobs.specs.Answering.{build_answer, is_counted}
+use Rattle.job_answers.specs.Printed.{is_counted}
+use Rattle.image_jobs.specs.Answering.{build_answer}
 
 -- ---- the answer
 

@@ -3,10 +3,8 @@ pub mod Answering
 pub mod Asked
 pub mod Build
 pub mod BuildArm
-pub mod Devices
 pub mod ListArm
 pub mod MapArm
+pub mod OnDevices
 pub mod Printed
 pub mod Run
-pub mod Said
-pub mod VerifyArm

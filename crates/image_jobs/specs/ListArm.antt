@@ -13,7 +13,7 @@ use Rattle.list_job.specs.Printed.{listing_lines}
 use Rattle.list_job.specs.declared.fault.ListFault.{ListFault}
 use Rattle.list_job.specs.declared.fault.ListFault.TheVariants as fault
 use Rattle.list_job.specs.declared.listing.Listing.{Listing}
-use Rattle.image_jobs.specs.Said.{IsCausedBy, IsExpected, Says, said_lines}
+use Rattle.job_answers.specs.Said.{IsCausedBy, IsExpected, Says, said_lines}
 
 -- the answer of each fault of the reading of a file of that name
 abbrev pub list_answer : List ℕ → ListFault → Answer

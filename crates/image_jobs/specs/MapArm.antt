@@ -22,10 +22,11 @@ use Rattle.map_job.specs.declared.faults.MappingFault.TheVariants as fault
 use Rattle.map_job.specs.declared.mapping.Mapped.{Mapped}
 use Rattle.range_digest.specs.declared.digests.DigestFault.{DigestFault}
 use Rattle.range_digest.specs.declared.digests.DigestFault.TheVariants as digest
-use Rattle.image_jobs.specs.Answering.{full_at, graph_answer, is_counted, length_answer, plan_answer}
+use Rattle.job_answers.specs.Printed.{is_counted}
+use Rattle.image_jobs.specs.Answering.{full_at, graph_answer, length_answer, plan_answer}
 use Rattle.image_jobs.specs.Build.{conf_said}
 use Rattle.image_jobs.specs.BuildArm.{IsShown}
-use Rattle.image_jobs.specs.Said.{IsExpected, Says}
+use Rattle.job_answers.specs.Said.{IsExpected, Says}
 use Rattle.image_jobs.specs.declared.request.MapRequest.{MapRequest}
 
 -- ---- the answer of each fault
@@ -126,19 +127,3 @@ mapped_by wanted mapping after Refused = Unit {0}
 -- so it is where the work is done
 abbrev pub HasMapped : Result Image Answer → MapRequest → Tree → Answer → Type 0
 HasMapped wanted mapping after answer = mapped_by wanted mapping after (kind_of answer)
-
--- ---- the lines
-
-abbrev pub report_lines : Report → List (List ℕ)
-report_lines (report.Mapped ranges blocks) = mapped_text ranges blocks ∷ []
-report_lines other = []
-
-abbrev pub map_lines_by : Answer → Kind → List (List ℕ)
-map_lines_by answer (Finished said) = report_lines said
-map_lines_by answer LineFailed = []
-map_lines_by answer Counted = error_text answer ∷ []
-map_lines_by answer Refused = error_text answer ∷ []
-
--- the one line of an answer; a line that failed isn't printed
-abbrev pub map_lines : Answer → List (List ℕ)
-map_lines answer = map_lines_by answer (kind_of answer)

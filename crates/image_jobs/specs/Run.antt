@@ -1,22 +1,22 @@
 -- What an answer of `run` says, by cases on the command that its words ask for.
-use Rattle.std.specs.Prelude.{◌≢◌, ◌≡◌, ℕ, List, [], ◌∷◌, length, Option, Some, None}
+use Rattle.std.specs.Prelude.{◌≢◌, ◌≡◌, ℕ, List, [], ◌∷◌, Option, Some, None}
 use Rattle.base_fields.specs.declared.names.Pair.{Pair}
 use Rattle.outside.specs.Counts.{Counts}
 use Rattle.outside.specs.Files.{OthersStay, Tree}
 use Rattle.answer_lines.specs.Answer.{error_text}
 use Rattle.answer_lines.specs.declared.answer.Answer.{Answer}
 use Rattle.answer_lines.specs.declared.answer.Answer.TheVariants.{Usage, NoMemory}
-use Rattle.bench.specs.Meter.{CostsOn, Meter}
-use Rattle.bench.specs.declared.Dev.TheVariants.{Target}
-use Rattle.map_source.specs.Said.{map_said}
-use Rattle.verify_job.specs.Devices.{IsBounded, work_said}
+use Rattle.bench.specs.Meter.{Meter}
+use Rattle.device_commands.specs.CopyArm.{CopyAnswers, CopyCause, CopyCompletes}
+use Rattle.device_commands.specs.ForgetArm.{ForgetCause}
 use Rattle.image_jobs.specs.Build.{graph_said}
 use Rattle.image_jobs.specs.BuildArm.{BuildAnswers, BuildCause, BuildChanges, HasBuilt, IsComplete, build_lines}
 use Rattle.image_jobs.specs.ListArm.{ListAnswers, ListCause, ListCompletes, list_lines}
-use Rattle.image_jobs.specs.MapArm.{HasMapped, MapAnswers, MapCause, MapCompletes, map_lines, map_wanted}
-use Rattle.image_jobs.specs.VerifyArm.{Compares, VerifyAnswers, VerifyCause, VerifyCompletes, verify_lines}
+use Rattle.image_jobs.specs.MapArm.{HasMapped, MapAnswers, MapCause, MapCompletes, map_wanted}
+use Rattle.job_answers.specs.Printed.{line_of}
+use Rattle.device_commands.specs.VerifyArm.{Compares, VerifyAnswers, VerifyCause, VerifyCompletes, verify_lines}
 use Rattle.image_jobs.specs.declared.request.Command.{Command}
-use Rattle.image_jobs.specs.declared.request.Command.TheVariants.{Build, Map, Verify, List as Listed}
+use Rattle.image_jobs.specs.declared.request.Command.TheVariants.{Build, Map, Copy, Forget, Verify, List as Listed}
 
 -- the words have no job, or memory was refused for them
 abbrev pub IsUnread : Answer → Type 0
@@ -36,6 +36,8 @@ abbrev pub Answers : Option Command → List Pair → Tree → Tree → Answer �
 Answers None vars before after answer = IsUnread answer
 Answers (Some (Build request)) vars before after answer = BuildAnswers (graph_said vars before request) before after answer
 Answers (Some (Map mapping)) vars before after answer = MapAnswers (map_wanted vars before mapping) answer
+Answers (Some (Copy request)) vars before after answer = CopyAnswers before request answer
+Answers (Some (Forget journal)) vars before after answer = Unit {0}
 Answers (Some (Verify map target)) vars before after answer = VerifyAnswers before map answer
 Answers (Some (Listed image)) vars before after answer = ListAnswers before image answer
 
@@ -44,6 +46,8 @@ abbrev pub HasCompared : Option Command → Tree → List ℕ → Answer → Typ
 HasCompared None before bytes answer = IsUnread answer
 HasCompared (Some (Build request)) before bytes answer = Unit {0}
 HasCompared (Some (Map mapping)) before bytes answer = Unit {0}
+HasCompared (Some (Copy request)) before bytes answer = Unit {0}
+HasCompared (Some (Forget journal)) before bytes answer = Unit {0}
 HasCompared (Some (Verify map target)) before bytes answer = Compares before map bytes answer
 HasCompared (Some (Listed image)) before bytes answer = Unit {0}
 
@@ -55,6 +59,10 @@ Completes (Some (Build request)) vars before after counts_before counts_now line
     IsComplete (graph_said vars before request) before after counts_before counts_now lines_before lines_now answer
 Completes (Some (Map mapping)) vars before after counts_before counts_now lines_before lines_now old new answer =
     MapCompletes (map_wanted vars before mapping) counts_before counts_now lines_before lines_now answer
+Completes (Some (Copy request)) vars before after counts_before counts_now lines_before lines_now old new answer =
+    CopyCompletes before request counts_before counts_now lines_before lines_now old new answer
+Completes (Some (Forget journal)) vars before after counts_before counts_now lines_before lines_now old new answer =
+    ForgetCause lines_before lines_now old new answer
 Completes (Some (Verify map target)) vars before after counts_before counts_now lines_before lines_now old new answer =
     VerifyCompletes before map counts_before counts_now lines_before lines_now old new answer
 Completes (Some (Listed image)) vars before after counts_before counts_now lines_before lines_now old new answer =
@@ -67,6 +75,10 @@ HasCause (Some (Build request)) before now old new lines_before lines_now answer
     BuildCause before now lines_before lines_now answer
 HasCause (Some (Map mapping)) before now old new lines_before lines_now answer =
     MapCause before now lines_before lines_now answer
+HasCause (Some (Copy request)) before now old new lines_before lines_now answer =
+    CopyCause request before now old new lines_before lines_now answer
+HasCause (Some (Forget journal)) before now old new lines_before lines_now answer =
+    ForgetCause lines_before lines_now old new answer
 HasCause (Some (Verify map target)) before now old new lines_before lines_now answer =
     VerifyCause map before now old new lines_before lines_now answer
 HasCause (Some (Listed image)) before now old new lines_before lines_now answer =
@@ -79,6 +91,8 @@ abbrev pub HasMade : Option Command → List Pair → Tree → Tree → Answer �
 HasMade None vars before after answer = IsUnread answer
 HasMade (Some (Build request)) vars before after answer = HasBuilt (graph_said vars before request) before after answer
 HasMade (Some (Map mapping)) vars before after answer = HasMapped (map_wanted vars before mapping) mapping after answer
+HasMade (Some (Copy request)) vars before after answer = Unit {0}
+HasMade (Some (Forget journal)) vars before after answer = Unit {0}
 HasMade (Some (Verify map target)) vars before after answer = Unit {0}
 HasMade (Some (Listed image)) vars before after answer = Unit {0}
 
@@ -87,26 +101,10 @@ abbrev pub Changes : Option Command → List Pair → Tree → Tree → Type 0
 Changes None vars before after = after ≡ before
 Changes (Some (Build request)) vars before after = BuildChanges (graph_said vars before request) before after
 Changes (Some (Map mapping)) vars before after = OthersStay mapping.out before after
+Changes (Some (Copy request)) vars before after = after ≡ before
+Changes (Some (Forget journal)) vars before after = after ≡ before
 Changes (Some (Verify map target)) vars before after = after ≡ before
 Changes (Some (Listed image)) vars before after = after ≡ before
-
--- ---- the devices
-
--- the most work that a command makes them
-abbrev pub work_of : Option Command → Tree → ℕ
-work_of None before = 0
-work_of (Some (Build request)) before = 0
-work_of (Some (Map mapping)) before = 0
-work_of (Some (Verify map target)) before = work_said (length target) (map_said (before map))
-work_of (Some (Listed image)) before = 0
-
--- the same where the files aren't told: a comparing works as much as some map bounds
-abbrev pub HasBound : Option Command → Meter → Meter → Type 0
-HasBound None old new = CostsOn Target 0 old new
-HasBound (Some (Build request)) old new = CostsOn Target 0 old new
-HasBound (Some (Map mapping)) old new = CostsOn Target 0 old new
-HasBound (Some (Verify map target)) old new = IsBounded (length target) old new
-HasBound (Some (Listed image)) old new = CostsOn Target 0 old new
 
 -- ---- the lines
 
@@ -114,6 +112,8 @@ HasBound (Some (Listed image)) old new = CostsOn Target 0 old new
 abbrev pub lines_of : Option Command → List Pair → Tree → Tree → Answer → List (List ℕ)
 lines_of None vars before after answer = error_text answer ∷ []
 lines_of (Some (Build request)) vars before after answer = build_lines (graph_said vars before request) after answer
-lines_of (Some (Map mapping)) vars before after answer = map_lines answer
+lines_of (Some (Map mapping)) vars before after answer = line_of answer
+lines_of (Some (Copy request)) vars before after answer = line_of answer
+lines_of (Some (Forget journal)) vars before after answer = line_of answer
 lines_of (Some (Verify map target)) vars before after answer = verify_lines before map answer
 lines_of (Some (Listed image)) vars before after answer = list_lines before image answer

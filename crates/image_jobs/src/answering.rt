@@ -1,8 +1,9 @@
 //! The answer of a fault.
 ghost use Rattle.std.specs.Prelude.{◌≡◌};
-ghost use Rattle.image_jobs.specs.Answering.{IsCopied, build_answer, compose_answer, conf_answer, file_at, full_at, graph_answer};
+ghost use Rattle.job_answers.specs.Printed.{IsCopied};
+ghost use Rattle.image_jobs.specs.Answering.{build_answer, compose_answer, conf_answer, file_at, full_at, graph_answer};
 ghost use Rattle.image_jobs.specs.Answering.{length_answer, place_answer, plan_answer, source_file};
-ghost use Rattle.image_jobs.specs.Printed.{IsRefusal};
+ghost use Rattle.job_answers.specs.Printed.{IsRefusal};
 
 use answer_lines::Answer;
 use base_fields::{Name, NoMemory};

@@ -9,8 +9,8 @@ mod printing;
 mod reading;
 mod request;
 mod running;
-mod verify_arm;
 
 pub use conf_sections::Vars;
-pub use request::{DeviceNames, device_names};
+pub use device_commands::DeviceNames;
+pub use request::device_names;
 pub use running::run;

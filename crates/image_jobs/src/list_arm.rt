@@ -7,11 +7,11 @@ ghost use Rattle.job_stages.specs.Printing.{Prints};
 ghost use Rattle.list_job.specs.Listings.{IsListing};
 ghost use Rattle.list_job.specs.Printed.{listing_lines};
 ghost use Rattle.image_jobs.specs.ListArm.{ListAnswers, ListCause, ListCompletes, list_answer, list_lines};
-ghost use Rattle.image_jobs.specs.Printed.{IsRefusal, Reports};
+ghost use Rattle.job_answers.specs.Printed.{IsRefusal, Reports};
 
-use crate::printing::{refuse, reported};
 use answer_lines::{Answer, Report};
 use base_fields::Name;
+use job_answers::{refuse, reported};
 use list_job::{ListFault, Listing, print_listing, read_listing};
 use outside::{Files, Printer};
 use std::alloc::Global;

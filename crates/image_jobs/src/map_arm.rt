@@ -11,19 +11,19 @@ ghost use Rattle.conf_keys.specs.Within.{IsWithin};
 ghost use Rattle.image_graph.specs.IsGraph.{IsGraph};
 ghost use Rattle.image_specs.specs.IsSpec.{IsSpec};
 ghost use Rattle.job_stages.specs.Printing.{Prints};
-ghost use Rattle.image_jobs.specs.Answering.{IsCopied};
+ghost use Rattle.job_answers.specs.Printed.{IsCopied};
 ghost use Rattle.image_jobs.specs.MapArm.{HasMapped, IsMapShown, MapAnswers, MapCause, MapCompletes, Maps, digest_answer};
-ghost use Rattle.image_jobs.specs.MapArm.{graph_wanted, image_wanted, map_lines, map_wanted, mapping_answer};
-ghost use Rattle.image_jobs.specs.Printed.{IsRefusal, Reports};
+ghost use Rattle.image_jobs.specs.MapArm.{graph_wanted, image_wanted, map_wanted, mapping_answer};
+ghost use Rattle.job_answers.specs.Printed.{IsRefusal, Reports, line_of};
 
 use crate::answering::{answer_of_length, answer_of_plan, full_at, missing, short};
-use crate::printing::{refuse, reported};
 use crate::reading::{graph_in, read_request};
 use crate::request::MapRequest;
 use answer_lines::{Answer, LINE_ROOM, Report, mapped_line};
 use base_fields::Name;
 use conf_sections::{Conf, Vars};
 use image_graph::Graph;
+use job_answers::{refuse, reported};
 use map_job::{Mapped, MappingFault, map_image};
 use outside::{Files, PrintErr, Printer};
 use range_digest::DigestFault;
@@ -45,7 +45,7 @@ pub fn run_map<F: Files, P: Printer>(
     ensures none_fell_lines { P.faults out.old ≤ P.faults out.new }
     ensures made { F.told → HasMapped (map_wanted vars.now (F.file files.old) mapping) mapping (F.file files.new) result }
     ensures others { OthersStay mapping.out (F.file files.old) (F.file files.new) }
-    ensures prints { Prints (map_lines result) (P.lines out.old) (P.lines out.new) (P.faults out.old) (P.faults out.new) }
+    ensures prints { Prints (line_of result) (P.lines out.old) (P.lines out.new) (P.faults out.old) (P.faults out.new) }
     ensures refuses { IsRefusal result → Prints (error_text result ∷ []) (P.lines out.old) (P.lines out.new) (P.faults out.old) (P.faults out.new) }
 {
     match map_requested(alloc, mapping, vars, files) {
@@ -57,7 +57,7 @@ pub fn run_map<F: Files, P: Printer>(
 // Prints the line of a map that is written, and answers so.
 fn report_mapped<P: Printer>(mapped: Mapped, out: &mut P) -> Answer
     ensures answer { Reports (report.Mapped mapped.ranges mapped.blocks) (P.faults out.old) (P.faults out.new) result }
-    ensures prints { Prints (map_lines result) (P.lines out.old) (P.lines out.new) (P.faults out.old) (P.faults out.new) }
+    ensures prints { Prints (line_of result) (P.lines out.old) (P.lines out.new) (P.faults out.old) (P.faults out.new) }
     ensures none_fell { P.faults out.old ≤ P.faults out.new }
 {
     let printed = print_mapped(mapped, out);

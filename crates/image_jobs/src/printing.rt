@@ -1,30 +1,17 @@
 ghost use Rattle.std.specs.Prelude.{◌≡◌, ◌≤◌, OnOk, OnErr, [], ◌∷◌, length};
 ghost use Rattle.outside.specs.Counts.{Rose};
 ghost use Rattle.outside.specs.Printer.{added};
-ghost use Rattle.answer_lines.specs.Answer.{error_text};
 ghost use Rattle.answer_lines.specs.Lines.{built_text, image_text};
 ghost use Rattle.answer_lines.specs.declared.answer.Report.TheVariants as report;
 ghost use Rattle.job_stages.specs.Printing.{Prints, PrintsFront, all_added};
-ghost use Rattle.image_jobs.specs.Printed.{IsRefusal, Reports, image_lines, report_lines, reported_of};
+ghost use Rattle.job_answers.specs.Printed.{Reports};
+ghost use Rattle.image_jobs.specs.Printed.{image_lines, report_lines};
 
 use crate::answering::full_at;
-use answer_lines::{Answer, LINE_ROOM, Report, built_line, error_line, image_line};
+use answer_lines::{Answer, LINE_ROOM, Report, built_line, image_line};
 use image_graph::Graph;
+use job_answers::reported;
 use outside::{PrintErr, Printer};
-
-/// Prints the line of a refusal, which is the answer whether or not the line fails.
-pub fn refuse<P: Printer>(refusal: Answer, out: &mut P) -> Answer
-    requires { IsRefusal refusal }
-    ensures answer { result ≡ refusal }
-    ensures refusal { IsRefusal result }
-    ensures prints { Prints (error_text refusal ∷ []) (P.lines out.old) (P.lines out.new) (P.faults out.old) (P.faults out.new) }
-    ensures none_fell { P.faults out.old ≤ P.faults out.new }
-{
-    let mut room = [0; LINE_ROOM];
-    let length = error_line(&refusal, &mut room);
-    let _ = out.line(&room[..length]);
-    refusal
-}
 
 /// Prints the lines of a build that is done, and answers so. The sizes are those of the images' files in bytes, in the
 /// graph's order.
@@ -41,16 +28,6 @@ pub fn report_built<P: Printer>(graph: &Graph, sizes: &[u64], out: &mut P) -> An
             images: sizes.len() as u64,
         },
     )
-}
-
-/// The answer where the work is done and these lines were printed, or one wasn't.
-pub fn reported(printed: Result<(), PrintErr>, report: Report) -> Answer
-    ensures { result ≡ reported_of printed report }
-{
-    match printed {
-        Ok(()) => Answer::Done(report),
-        Err(PrintErr) => Answer::PrintFault,
-    }
 }
 
 // The lines of the images, and that of their number; after one that fails, none.

@@ -7,10 +7,11 @@ ghost use Rattle.image_graph.specs.Graph.{graph_of};
 ghost use Rattle.image_graph.specs.IsGraph.{IsGraph};
 ghost use Rattle.image_specs.specs.IsSpec.{IsSpec};
 ghost use Rattle.job_stages.specs.Stages.{Gives};
-ghost use Rattle.image_jobs.specs.Answering.{graph_answer, is_counted};
+ghost use Rattle.job_answers.specs.Printed.{is_counted};
+ghost use Rattle.image_jobs.specs.Answering.{graph_answer};
 ghost use Rattle.image_jobs.specs.Build.{conf_said, graph_said, with_paths};
 ghost use Rattle.image_jobs.specs.BuildArm.{IsShown};
-ghost use Rattle.image_jobs.specs.Printed.{IsRefusal};
+ghost use Rattle.job_answers.specs.Printed.{IsRefusal};
 
 use crate::answering::{answer_of_conf, answer_of_graph};
 use crate::request::Request;

@@ -1,7 +1,11 @@
-ghost use Rattle.std.specs.Prelude.{◌≡◌, map, string_bytes, IfOk, IsErrOf, None, Some};
-ghost use Rattle.image_jobs.specs.Asked.{IsSound, asked, names_of};
+ghost use Rattle.std.specs.Prelude.{◌≡◌, map, string_bytes, IfErr, IfOk, IsErrOf, None, Some};
+ghost use Rattle.job_words.specs.declared.jobs.WordFault.{WordFault};
+ghost use Rattle.image_jobs.specs.declared.request.Command.{Command};
+ghost use Rattle.image_jobs.specs.Asked.{IsSound, asked, copy_unless, names_of};
 
 use base_fields::{Name, NoMemory};
+use copy_job::{CopyRequest, Mode};
+use device_commands::DeviceNames;
 use job_words::{Job, WordFault, jobs_are_in_range, read_words};
 use std::alloc::Global;
 
@@ -31,17 +35,14 @@ pub enum Command {
     Build(Request),
     /// Writes the block map of one of them.
     Map(MapRequest),
+    /// Copies the mapped bytes of a file to a target, from the beginning or going on.
+    Copy(CopyRequest),
+    /// Takes back what a journal holds.
+    Forget { journal: Name },
     /// Compares a target with the digests of a map.
     Verify { map: Name, target: Name },
     /// Lists what stands in a file.
     List { image: Name },
-}
-
-/// The names under which a command attaches the devices that it uses.
-#[derive(Debug, Drop)]
-pub struct DeviceNames {
-    pub target: Option<Name>,
-    pub journal: Option<Name>,
 }
 
 /// The command that the words ask for. A job that `run` has no arm for yet is as no words.
@@ -70,9 +71,62 @@ pub fn asked(alloc: Global, words: &Vec<String>) -> Result<Command, WordFault>
             out,
             block,
         })),
+        Job::Copy {
+            source,
+            map,
+            target,
+            journal,
+            unit,
+            window,
+            sparse,
+        } => copy_unless(
+            sparse,
+            CopyRequest {
+                source,
+                map,
+                target,
+                journal,
+                unit,
+                mode: Mode::Fresh,
+                window,
+            },
+        ),
+        Job::Resume {
+            source,
+            map,
+            target,
+            journal,
+            unit,
+            sparse,
+        } => copy_unless(
+            sparse,
+            CopyRequest {
+                source,
+                map,
+                target,
+                journal,
+                unit,
+                mode: Mode::Again,
+                window: 1,
+            },
+        ),
+        Job::Forget { journal } => Ok(Command::Forget { journal }),
         Job::Verify { map, target } => Ok(Command::Verify { map, target }),
         Job::List { image } => Ok(Command::List { image }),
         _ => Err(WordFault::Usage),
+    }
+}
+
+// A copy, but for a sparse source.
+fn copy_unless(sparse: bool, request: CopyRequest) -> Result<Command, WordFault>
+    ensures ok { IfOk result (λ command. copy_unless sparse request ≡ Some command) }
+    ensures copies { IfOk result (λ command. command ≡ Command.Copy request) }
+    ensures usage { IfErr result (λ fault. (fault ≡ WordFault.Usage) × (copy_unless sparse request ≡ None)) }
+{
+    if sparse {
+        Err(WordFault::Usage)
+    } else {
+        Ok(Command::Copy(request))
     }
 }
 
@@ -92,6 +146,14 @@ pub fn device_names(alloc: Global, words: &Vec<String>) -> Result<DeviceNames, N
     ensures { IfOk result (λ names. names ≡ names_of (asked (map string_bytes words.now.items))) }
 {
     match asked(alloc, words) {
+        Ok(Command::Copy(request)) => Ok(DeviceNames {
+            target: Some(request.target),
+            journal: Some(request.journal),
+        }),
+        Ok(Command::Forget { journal }) => Ok(DeviceNames {
+            target: None,
+            journal: Some(journal),
+        }),
         Ok(Command::Verify { map: _, target }) => Ok(DeviceNames {
             target: Some(target),
             journal: None,

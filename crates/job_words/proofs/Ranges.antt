@@ -1,14 +1,15 @@
--- The blocks, pages and windows of a job are in their ranges.
+-- The blocks, pages, units and windows of a job are in their ranges.
 use lib.Count.{ones}
-use Rattle.std.proofs.Common.{◌≡◌, ◌≤◌, ℕ, Bool, cond, true, false, List, [], ◌∷◌, Option, Some, None, refl, subst, arith, leb-true}
-use Rattle.std.specs.Prelude.{IsTrue, option_and_then, option_map, codes}
-use Rattle.base_fields.proofs.Between.{both, power_between_gives}
+use Rattle.std.proofs.Common.{◌≡◌, ℕ, Bool, cond, true, false, List, [], ◌∷◌, Option, Some, None, refl, subst, arith, leb-true, ap, ◌∙◌, ◌==◌, ◌+◌, ◌*◌, ◌^◌}
+use Rattle.std.specs.Prelude.{option_and_then, option_map, codes}
+use Rattle.std.proofs.lemmas.Nat.{ones_cat}
+use Rattle.base_fields.proofs.Between.{between_gives, power_between_gives}
 use Rattle.base_fields.specs.Numbers.{IsPowerBetween}
 use Rattle.clap.specs.Walk.{Row, Text, all_of, first_of}
 use Rattle.job_words.specs.Arguments.{is_between, is_power_between, number_or, numeral_of, passing, simple, taken, text_at}
 use Rattle.job_words.specs.Jobs.{are_pieces, arguments_of, block_of, copy_with, ends_differ, erase_block_of, expand_with, job_by, job_from, job_of}
 use Rattle.job_words.specs.Jobs.{nand_places_differ, nand_with, page_of, pairs_from, unit_of, window_of}
-use Rattle.job_words.specs.Ranges.{AreNandSizes, IsInRange, IsWindow}
+use Rattle.job_words.specs.Ranges.{IsInRange, IsUnit, IsWindow}
 use Rattle.job_words.specs.Verbs.{verb_named}
 use Rattle.job_words.specs.declared.jobs.Job.{Job}
 use Rattle.job_words.specs.declared.jobs.Job.TheVariants as job
@@ -58,6 +59,17 @@ usual_page : IsPowerBetween 512 16384 2048
 unfolding ones
 usual_page = record { power = refl; not_below = omega arith; not_above = omega arith }
 
+-- 1048576 is too large to be unfolded: its one digit is that of 16, with 16 digits of zeros behind it
+one_digit : ones 16 + ones 0 ≡ 1
+unfolding ones
+one_digit = refl
+
+one_in_unit : ones (16 * 2 ^ 16 + 0) ≡ 1
+one_in_unit = ones_cat 16 16 0 (omega arith) ∙ one_digit
+
+usual_unit : IsUnit 1048576
+usual_unit = record { power = ap (λ n. n == 1) one_in_unit; not_below = omega arith; not_above = omega arith }
+
 block_in : (rows : List Row) (n : ℕ) → block_of rows ≡ Some n → IsPowerBetween 512 65536 n
 block_in rows n is =
     numbered 4096 (is_power_between 512 65536) (IsPowerBetween 512 65536) (first_of (codes "block") rows) n usual_block
@@ -65,13 +77,12 @@ block_in rows n is =
 
 window_in : (rows : List Row) (n : ℕ) → window_of rows ≡ Some n → IsWindow n
 window_in rows n is =
-    numbered 1 (is_between 1 16) IsWindow (first_of (codes "window") rows) n (record { some = omega arith; few = omega arith })
-    at is
-  where
-    at : (m : ℕ) → is_between 1 16 m ≡ true → IsWindow m
-    at m h =
-        let bounds = both _ _ h in
-        record { some = leb-true 1 m bounds.0; few = leb-true m 16 bounds.1 }
+    numbered 1 (is_between 1 16) IsWindow (first_of (codes "window") rows) n (omega arith, omega arith) (between_gives 1 16) is
+
+unit_in : (rows : List Row) (n : ℕ) → unit_of rows ≡ Some n → IsUnit n
+unit_in rows n is =
+    numbered 1048576 (is_power_between 65536 4194304) IsUnit (first_of (codes "unit") rows) n usual_unit
+    (power_between_gives 65536 4194304) is
 
 erase_block_in : (rows : List Row) (n : ℕ) → erase_block_of rows ≡ Some n → IsPowerBetween 1 4194304 n
 erase_block_in rows n is =
@@ -127,17 +138,20 @@ from verb.Build rows j e = plain _ j tt e
 from verb.Map rows j e = mapped _ (block_of rows) j (block_in rows) e
 from verb.Copy rows j e =
     where_it_holds (ends_differ rows) _ j (λ differ is. followed _ (unit_of rows) j (λ unit found rest.
-    mapped (copy_with rows unit) (window_of rows) j (window_in rows) rest) is) e
+    mapped (copy_with rows unit) (window_of rows) j (λ window given. record {
+      units = unit_in rows unit found;
+      windows = window_in rows window given;
+    }) rest) is) e
 from verb.Resume rows j e =
-    where_it_holds (ends_differ rows) _ j (λ differ is. mapped _ (unit_of rows) j (λ unit found. tt) is) e
+    where_it_holds (ends_differ rows) _ j (λ differ is. mapped _ (unit_of rows) j (unit_in rows) is) e
 from verb.Forget rows j e = plain _ j tt e
 from verb.Verify rows j e = where_it_holds _ _ j (λ differ is. plain _ j tt is) e
 from verb.List rows j e = plain _ j tt e
 from verb.Demo rows j e = mapped _ (numeral_of (text_at (codes "SEED") rows)) j (λ seed is. tt) e
 from verb.Gang rows j e =
-    followed _ (unit_of rows) j (λ unit found rest. mapped _ (pairs_from rows) j (λ pairs is. tt) rest) e
+    followed _ (unit_of rows) j (λ unit found rest. mapped _ (pairs_from rows) j (λ pairs is. unit_in rows unit found) rest) e
 from verb.GangResume rows j e =
-    followed _ (unit_of rows) j (λ unit found rest. mapped _ (pairs_from rows) j (λ pairs is. tt) rest) e
+    followed _ (unit_of rows) j (λ unit found rest. mapped _ (pairs_from rows) j (λ pairs is. unit_in rows unit found) rest) e
 from verb.Cut rows j e = mapped _ (numeral_of (text_at (codes "SIZE") rows)) j (λ size is. tt) e
 from verb.Expand rows j e =
     let out : Text = text_at (codes "OUT") rows in

@@ -1,5 +1,5 @@
 use Rattle.std.proofs.Common.{rules}
-use Rattle.image_jobs.proofs.SaidLemmas.{error_line}
+use Rattle.job_answers.proofs.SaidLemmas.{error_line}
 use Rattle.image_jobs.proofs.list_arm.run_list.Goals as goal
 
 pub returns-in-Err-clause-prints : goal.returns-in-Err-clause-prints

@@ -1,7 +1,8 @@
 use Rattle.std.proofs.Common.{rules}
 use Rattle.image_jobs.proofs.CountedLemmas.{counted_alone}
-use Rattle.image_jobs.proofs.MapLemmas.{map_caused, map_error_line, map_made, map_not_made}
-use Rattle.image_jobs.proofs.SaidLemmas.{refusal_expected, refusal_says}
+use Rattle.job_answers.proofs.LineLemmas.{answer_line}
+use Rattle.image_jobs.proofs.MapLemmas.{map_caused, map_made, map_not_made}
+use Rattle.job_answers.proofs.SaidLemmas.{refusal_expected, refusal_says}
 use Rattle.image_jobs.specs.MapArm.{is_mapped}
 use Rattle.image_jobs.proofs.map_arm.run_map.Goals as goal
 
@@ -27,4 +28,4 @@ pub returns-in-Err-clause-made : goal.returns-in-Err-clause-made
 returns-in-Err-clause-made g c = λ told. map_not_made _ c.args.mapping (g.F.Files.file c.map_requested.new.files) c.refuse.result c.refuse.ensures.refusal
 
 pub returns-in-Err-clause-prints : goal.returns-in-Err-clause-prints
-returns-in-Err-clause-prints g c = rw (map_error_line c.refuse.result c.refuse.ensures.refusal) (search rules)
+returns-in-Err-clause-prints g c = rw (answer_line c.refuse.result c.refuse.ensures.refusal) (search rules)

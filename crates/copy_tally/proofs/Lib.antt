@@ -1,0 +1,5 @@
+-- lemmas
+mod Counts
+mod Decided
+mod Mapped
+mod Steps

@@ -1,0 +1,3 @@
+-- lemmas
+mod CopyLemmas
+mod VerifyLemmas

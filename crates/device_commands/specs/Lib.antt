@@ -1,0 +1,5 @@
+-- definitions that contracts cite
+pub mod CopyArm
+pub mod Devices
+pub mod ForgetArm
+pub mod VerifyArm

@@ -1,0 +1,3 @@
+-- lemmas
+pub mod LineLemmas
+pub mod SaidLemmas

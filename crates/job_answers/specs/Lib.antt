@@ -1,0 +1,3 @@
+-- definitions that contracts cite
+pub mod Printed
+pub mod Said
