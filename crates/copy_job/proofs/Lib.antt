@@ -1,4 +1,5 @@
 -- lemmas
+pub mod CauseLemmas
 pub mod ForgetLemmas
 pub mod LookLemmas
 pub mod RequestLemmas

@@ -61,7 +61,7 @@ early_own (Err refusal) a = tt
 
 -- ---- where something is
 -- what a run keeps, as that of the job that is said
-job_has : (P : CopyJob → Type 0) (said : Result CopyJob CopyJobFault) (job : CopyJob) → said ≡ Ok job → P job →
+pub job_has : (P : CopyJob → Type 0) (said : Result CopyJob CopyJobFault) (job : CopyJob) → said ≡ Ok job → P job →
     IfOk said P
 job_has P said job is has = subst (λ (s : Result CopyJob CopyJobFault). IfOk s P) (sym is) has
 
