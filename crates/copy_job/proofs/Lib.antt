@@ -1,5 +1,4 @@
 -- lemmas
-pub mod CauseLemmas
 pub mod ForgetLemmas
 pub mod LookLemmas
 pub mod RequestLemmas

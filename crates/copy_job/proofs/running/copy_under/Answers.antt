@@ -1,7 +1,6 @@
-use Rattle.std.proofs.Common.{Err, Ok, arith}
-use Rattle.outside.specs.Counts.{NoneFell}
-use Rattle.copy_job.proofs.CauseLemmas.{cause_before}
+use Rattle.std.proofs.Common.{Err, Ok}
 use Rattle.copy_job.proofs.LookLemmas.{marks_then, narrow_looked, narrow_then, outcome_then, own_looked, own_then, since_looked, since_then}
+use Rattle.copy_job.proofs.RunLemmas.{none_fell, run_caused}
 use Rattle.copy_job.proofs.running.copy_under.Goals as goal
 
 pub returns-in-Err-clause-since : goal.returns-in-Err-clause-since
@@ -58,8 +57,6 @@ returns-in-Err-copy_all-clause-outcome g c told =
 
 pub returns-in-Err-copy_all-clause-caused : goal.returns-in-Err-copy_all-clause-caused
 returns-in-Err-copy_all-clause-caused g c =
-    let counts = g.F.Files.counts c.args.files.now in
-    let none : NoneFell counts counts = record { faults = omega arith; absences = omega arith; ends = omega arith } in
-    cause_before g.B.Bench.told c.args.job.now (g.B.Bench.disk c.copy_all.new.bench) counts counts (g.F.Files.counts c.copy_all.new.files)
-    (g.B.Bench.meter c.args.bench.now) (g.B.Bench.meter c.attach_both.new.bench) (g.B.Bench.meter c.copy_all.new.bench)
-    c.in-Err-copy_all.fault none c.attach_both.ensures.bill.target c.attach_both.ensures.bill.journal c.in-Err-copy_all.ensures.cause
+    run_caused g.B.Bench.told c.args.job.now (g.B.Bench.disk c.copy_all.new.bench) (g.F.Files.counts c.args.files.now) (g.F.Files.counts c.args.files.now) (g.F.Files.counts c.copy_all.new.files)
+    (g.B.Bench.meter c.args.bench.now) (g.B.Bench.meter c.attach_both.new.bench) (g.B.Bench.meter c.copy_all.new.bench) (none_fell (g.F.Files.counts c.args.files.now))
+    c.attach_both.ensures.bill.target c.attach_both.ensures.bill.journal c.in-Err-copy_all.fault c.in-Err-copy_all.ensures.cause
