@@ -98,3 +98,7 @@ pub returns-clause-caused : goal.returns-clause-caused
 returns-clause-caused g c of_files =
     said_caused g.B.Bench.told (g.B.Bench.disk c.copy_under.new.bench) (g.F.Files.counts c.args.files.now) (g.F.Files.counts c.job_of_request.new.files) (g.F.Files.counts c.copy_under.new.files) (g.B.Bench.meter c.args.bench.now) (g.B.Bench.meter c.copy_under.new.bench) (copying_said (g.F.Files.file c.args.files.now) c.args.request.now) c.in-Ok.job c.copy_under.result
     c.job_of_request.ensures.none_fell (c.in-Ok.ensures.said of_files) c.copy_under.ensures.caused
+
+pub returns-in_default-clause-own : goal.returns-in_default-clause-own
+returns-in_default-clause-own g c of_files of_bench =
+    early_own (copying_said (g.F.Files.file c.args.files.now) c.args.request.now) (g.B.Bench.disk c.args.bench.now)
