@@ -1,6 +1,6 @@
 -- lemmas
 mod Bytes
-mod Digests
+pub mod Digests
 mod Elements
 mod Ending
 mod Fronts
@@ -10,5 +10,5 @@ mod RangeLines
 mod Reading
 mod Rising
 mod States
-mod TheLaw
+pub mod TheLaw
 mod Values

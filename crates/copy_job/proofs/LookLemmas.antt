@@ -1,12 +1,11 @@
 -- A run behind a look at the devices: all that is said of it from its own start holds from the look's start, too.
-use Rattle.std.proofs.Common.{◌≡◌, ℕ, List, Option, Some, Result, Ok, Err, ap, subst, sym, inl, refl, arith, tt}
+use Rattle.std.proofs.Common.{◌≡◌, ℕ, List, Option, Some, Result, Ok, Err, ap, subst, sym, inl, ◌∙◌, refl, arith}
 use Rattle.bench.specs.declared.Dev.{Dev}
 use Rattle.bench.specs.declared.Dev.TheVariants.{Target, Journal}
-use Rattle.bench.specs.Disk.{Disk, Looked, Runs}
+use Rattle.bench.specs.Disk.{Disk, IsSettled, Looked, Runs}
 use Rattle.bench.proofs.DiskLemmas.{keeps_then, looked_keeps, looked_then, runs_then}
 use Rattle.copier.specs.declared.faults.CopyFault.{CopyFault}
 use Rattle.copier_course.specs.declared.jobs.CopyJob.{CopyJob}
-use Rattle.copy_journal.proofs.GateLemmas.{settled_looked}
 use Rattle.copy_opening.proofs.OpeningLemmas.{looked_opens, opening_is_narrow, opening_keeps_marks}
 use Rattle.copy_opening.specs.Openings.{start_of}
 use Rattle.copy_opening.specs.declared.opening.Mode.{Mode}
@@ -26,6 +25,11 @@ looked_none a = record {
   images = λ dev image now. now;
   time = record { later = omega arith; since = λ m t j le left. inl left; kept = λ m t j le left. left };
 }
+
+-- a settled device that is looked at is settled
+settled_looked : {dev : Dev} {a b : Disk} → IsSettled a dev → Looked a b → IsSettled b dev
+settled_looked {dev} {a} {b} settled looked =
+    λ image now. settled image (looked.images dev image now) ∙ ap (λ (f : Dev → List ℕ). f dev) (sym looked.reads)
 
 -- ---- however it ends
 pub since_looked : (told : Type 0) (file : Option (List ℕ)) (job : CopyJob) {a b : Disk} → Looked a b →

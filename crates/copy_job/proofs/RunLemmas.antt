@@ -1,55 +1,29 @@
--- A copy by the run of its job, and one that isn't run.
-use Rattle.std.proofs.Common.{◌≡◌, ℕ, ◌+◌, ◌≤◌, List, [], Option, Result, Ok, Err, ap, subst, sym, refl, arith, tt, absurd}
-use Rattle.std.specs.Prelude.{IsOk, IfErr, IfOk}
+-- A copy by the run of the job that is said, and one that isn't run.
+use Rattle.std.proofs.Common.{◌≡◌, ℕ, [], Result, Ok, Err, subst, sym, refl, arith}
+use Rattle.std.specs.Prelude.{IfOk}
 use Rattle.std.proofs.lemmas.List.Elements.{All-nil}
 use Rattle.base_fields.specs.Numbers.{IsPowerBetween}
 use Rattle.bench.specs.Disk.{Disk}
-use Rattle.bench.specs.Meter.{Costs, Meter, of_device}
-use Rattle.bench.specs.declared.Dev.{Dev}
-use Rattle.bench.specs.declared.Dev.TheVariants.{Target, Journal}
+use Rattle.bench.specs.Meter.{Costs, Meter}
 use Rattle.block_map.specs.Maps.{IsMap}
 use Rattle.block_map.specs.Units.{cut_of}
 use Rattle.block_map.specs.declared.maps.BlockMap.{BlockMap}
 use Rattle.copier.specs.declared.faults.CopyFault.{CopyFault}
-use Rattle.copier.specs.declared.faults.CopyFault.TheVariants as run
 use Rattle.copier_course.specs.Courses.{IsCopyJob}
 use Rattle.copier_course.specs.declared.jobs.CopyJob.{CopyJob}
-use Rattle.copy_journal.specs.Faults.{HasFailed}
-use Rattle.copy_run.specs.Faults.{IsRunFault}
+use Rattle.copy_run.specs.Runs.{RunIsNarrow, RunKeepsMarks, RunKeepsSince}
 use Rattle.copy_run.specs.declared.running.Tally.{Tally}
-use Rattle.job_stages.specs.Stages.{Refuses}
-use Rattle.journal_format.specs.declared.jobs.JobId.{JobId}
-use Rattle.outside.specs.Counts.{Counts, NoneFell, Rose}
-use Rattle.copy_job.specs.Copies.{Answers, OfRun, Untouched}
+use Rattle.copy_stages.specs.Stages.{KeepsOwn}
+use Rattle.outside.specs.Files.{Tree}
+use Rattle.copy_job.proofs.LookLemmas.{looked_none, marks_looked, narrow_looked, own_looked, since_looked}
+use Rattle.copy_job.specs.Copies.{OfRun}
 use Rattle.copy_job.specs.Devices.{IsBounded, most_work}
-use Rattle.copy_job.specs.Faults.{IsShown, is_counted}
-use Rattle.copy_job.specs.Stages.{IsEarly, IsLate}
+use Rattle.copy_job.specs.Stages.{IsEarly}
 use Rattle.copy_job.specs.declared.faults.CopyJobFault.{CopyJobFault}
 use Rattle.copy_job.specs.declared.faults.CopyJobFault.TheVariants.{Compressed, Missing, FileFault, Map, TooManyUnits, DeviceFault, Copy, NoMemory}
 use Rattle.copy_job.specs.declared.requests.CopyRequest.{CopyRequest}
 
--- ---- by what is said
--- there is a job, so what holds of it holds of the one that is said
-pub job_has : (said : Result CopyJob CopyJobFault) (job : CopyJob) {P : CopyJob → Type 0} → said ≡ Ok job → P job →
-    IfOk said P
-job_has said job {P} is has = subst (λ (s : Result CopyJob CopyJobFault). IfOk s P) (sym is) has
-
-pub each_job : (said : Result CopyJob CopyJobFault) {P : CopyJob → Type 0} → ((job : CopyJob) → P job) → IfOk said P
-each_job (Ok job) {P} has = has job
-each_job (Err fault) {P} has = tt
-
 -- ---- where nothing is asked of the devices
-pub early_answers : (said : Result CopyJob CopyJobFault) (fault : CopyJobFault) → IsEarly fault →
-    Refuses is_counted said fault → Answers said (Err fault)
-early_answers said Compressed early refuses = refuses
-early_answers said Missing early refuses = refuses
-early_answers said FileFault early refuses = refuses
-early_answers said (Map fault) early refuses = refuses
-early_answers said (TooManyUnits count limit) early refuses = refuses
-early_answers said (DeviceFault dev) early refuses = absurd early
-early_answers said (Copy fault) early refuses = absurd early
-early_answers said NoMemory early refuses = refuses
-
 pub early_of_run : (P : Result Tally CopyFault → Type 0) (fault : CopyJobFault) → IsEarly fault → OfRun P (Err fault)
 early_of_run P Compressed early = tt
 early_of_run P Missing early = tt
@@ -60,69 +34,61 @@ early_of_run P (DeviceFault dev) early = tt
 early_of_run P (Copy fault) early = absurd early
 early_of_run P NoMemory early = tt
 
-pub early_untouched : {A : Type 0} (a : A) (fault : CopyJobFault) → IsEarly fault → Untouched a a (Err fault)
-early_untouched {A} a Compressed early = refl
-early_untouched {A} a Missing early = refl
-early_untouched {A} a FileFault early = refl
-early_untouched {A} a (Map fault) early = refl
-early_untouched {A} a (TooManyUnits count limit) early = refl
-early_untouched {A} a (DeviceFault dev) early = tt
-early_untouched {A} a (Copy fault) early = tt
-early_untouched {A} a NoMemory early = refl
+-- so of the job that is said, whatever it is
+pub early_of_said : (P : CopyJob → Result Tally CopyFault → Type 0) (said : Result CopyJob CopyJobFault)
+    (fault : CopyJobFault) → IsEarly fault → IfOk said (λ job. OfRun (P job) (Err fault))
+early_of_said P (Ok job) fault early = early_of_run (P job) fault early
+early_of_said P (Err refusal) fault early = tt
+
+pub early_since : (told : Type 0) (file : Tree) (said : Result CopyJob CopyJobFault) (a : Disk) →
+    IfOk said (λ job. RunKeepsSince told (file job.source) job a a)
+early_since told file (Ok job) a = since_looked told (file job.source) job (looked_none a)
+early_since told file (Err refusal) a = tt
+
+pub early_narrow : (told : Type 0) (file : Tree) (said : Result CopyJob CopyJobFault) (a : Disk) →
+    IfOk said (λ job. RunIsNarrow told (file job.source) job a a)
+early_narrow told file (Ok job) a = narrow_looked told (file job.source) job (looked_none a)
+early_narrow told file (Err refusal) a = tt
+
+pub early_marks : (told : Type 0) (file : Tree) (said : Result CopyJob CopyJobFault) (a : Disk) →
+    IfOk said (λ job. RunKeepsMarks told (file job.source) job a a)
+early_marks told file (Ok job) a = marks_looked told (file job.source) job (looked_none a)
+early_marks told file (Err refusal) a = tt
+
+pub early_own : (said : Result CopyJob CopyJobFault) (a : Disk) → IfOk said (λ job. KeepsOwn job.id a a)
+early_own (Ok job) a = own_looked job (looked_none a)
+early_own (Err refusal) a = tt
 
 -- ---- where something is
-pub run_answers : (said : Result CopyJob CopyJobFault) (answer : Result Tally CopyJobFault) → IsOk said →
-    IfErr answer IsLate → Answers said answer
-run_answers said (Ok tally) is late = is
-run_answers said (Err Compressed) is late = absurd late
-run_answers said (Err Missing) is late = absurd late
-run_answers said (Err FileFault) is late = absurd late
-run_answers said (Err (Map fault)) is late = absurd late
-run_answers said (Err (TooManyUnits count limit)) is late = absurd late
-run_answers said (Err (DeviceFault dev)) is late = is
-run_answers said (Err (Copy fault)) is late = is
-run_answers said (Err NoMemory) is late = absurd late
+-- what a run keeps, as that of the job that is said
+job_has : (P : CopyJob → Type 0) (said : Result CopyJob CopyJobFault) (job : CopyJob) → said ≡ Ok job → P job →
+    IfOk said P
+job_has P said job is has = subst (λ (s : Result CopyJob CopyJobFault). IfOk s P) (sym is) has
 
-pub run_untouched : {A : Type 0} (old new : A) (answer : Result Tally CopyJobFault) → IfErr answer IsLate →
-    Untouched old new answer
-run_untouched {A} old new (Ok tally) late = tt
-run_untouched {A} old new (Err Compressed) late = absurd late
-run_untouched {A} old new (Err Missing) late = absurd late
-run_untouched {A} old new (Err FileFault) late = absurd late
-run_untouched {A} old new (Err (Map fault)) late = absurd late
-run_untouched {A} old new (Err (TooManyUnits count limit)) late = absurd late
-run_untouched {A} old new (Err (DeviceFault dev)) late = tt
-run_untouched {A} old new (Err (Copy fault)) late = tt
-run_untouched {A} old new (Err NoMemory) late = absurd late
+pub said_since : (told : Type 0) (file after : Tree) (said : Result CopyJob CopyJobFault) (job : CopyJob) (a b : Disk) →
+    after ≡ file → said ≡ Ok job → RunKeepsSince told (after job.source) job a b →
+    IfOk said (λ job. RunKeepsSince told (file job.source) job a b)
+said_since told file after said job a b same is run =
+    job_has (λ (job : CopyJob). RunKeepsSince told (file job.source) job a b) said job is
+    (subst (λ (f : Tree). RunKeepsSince told (f job.source) job a b) same run)
 
--- ---- counts
-pub none_fell_then : {a b c : Counts} → NoneFell a b → NoneFell b c → NoneFell a c
-none_fell_then {a} {b} {c} first second = record {
-  faults = omega (arith, first.faults, second.faults);
-  absences = omega (arith, first.absences, second.absences);
-  ends = omega (arith, first.ends, second.ends);
-}
+pub said_narrow : (told : Type 0) (file after : Tree) (said : Result CopyJob CopyJobFault) (job : CopyJob) (a b : Disk) →
+    after ≡ file → said ≡ Ok job → RunIsNarrow told (after job.source) job a b →
+    IfOk said (λ job. RunIsNarrow told (file job.source) job a b)
+said_narrow told file after said job a b same is run =
+    job_has (λ (job : CopyJob). RunIsNarrow told (file job.source) job a b) said job is
+    (subst (λ (f : Tree). RunIsNarrow told (f job.source) job a b) same run)
 
-rose_later : (a b c : ℕ) → a ≤ b → Rose b c → Rose a c
-rose_later a b c before rose = omega (arith, before, rose)
+pub said_marks : (told : Type 0) (file after : Tree) (said : Result CopyJob CopyJobFault) (job : CopyJob) (a b : Disk) →
+    after ≡ file → said ≡ Ok job → RunKeepsMarks told (after job.source) job a b →
+    IfOk said (λ job. RunKeepsMarks told (file job.source) job a b)
+said_marks told file after said job a b same is run =
+    job_has (λ (job : CopyJob). RunKeepsMarks told (file job.source) job a b) said job is
+    (subst (λ (f : Tree). RunKeepsMarks told (f job.source) job a b) same run)
 
-failed_later : (dev : Dev) {most : ℕ} {a b c : Meter} → Costs most a b → HasFailed dev b c → HasFailed dev a c
-failed_later Target {most} {a} {b} {c} costs failed = rose_later a.faults.target b.faults.target c.faults.target costs.target failed
-failed_later Journal {most} {a} {b} {c} costs failed = rose_later a.faults.journal b.faults.journal c.faults.journal costs.journal failed
-
--- why a run isn't done, behind calls on the devices
-pub run_shown : (told : Type 0) (job : CopyJob) (disk : Disk) {most : ℕ} {before now : Counts} {a b c : Meter} → Costs most a b →
-    (fault : CopyFault) → IsRunFault told job disk before now b c fault → IsShown before now a c (Copy fault)
-run_shown told job disk {most} {before} {now} {a} {b} {c} costs (run.TargetTooSmall has needs) cause = cause.1
-run_shown told job disk {most} {before} {now} {a} {b} {c} costs (run.JournalHeld kept finished) cause = tt
-run_shown told job disk {most} {before} {now} {a} {b} {c} costs run.NoJournal cause = tt
-run_shown told job disk {most} {before} {now} {a} {b} {c} costs (run.JournalForeign kept given len) cause = tt
-run_shown told job disk {most} {before} {now} {a} {b} {c} costs (run.SourceShort at) cause = cause
-run_shown told job disk {most} {before} {now} {a} {b} {c} costs run.Missing cause = cause
-run_shown told job disk {most} {before} {now} {a} {b} {c} costs run.FileFault cause = cause
-run_shown told job disk {most} {before} {now} {a} {b} {c} costs (run.DeviceFault dev) cause = failed_later dev costs cause
-run_shown told job disk {most} {before} {now} {a} {b} {c} costs (run.RangeDiffers range want got) cause = cause.differs
-run_shown told job disk {most} {before} {now} {a} {b} {c} costs run.NoMemory cause = tt
+pub said_own : (said : Result CopyJob CopyJobFault) (job : CopyJob) (a b : Disk) → said ≡ Ok job → KeepsOwn job.id a b →
+    IfOk said (λ job. KeepsOwn job.id a b)
+said_own said job a b is run = job_has (λ (job : CopyJob). KeepsOwn job.id a b) said job is run
 
 -- ---- work
 pub no_cost : (n : ℕ) (a : Meter) → Costs n a a

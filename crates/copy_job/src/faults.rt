@@ -1,5 +1,4 @@
-use base_fields::NoMemory;
-use bench::{BenchErr, Dev};
+use bench::Dev;
 use copier::CopyFault;
 use map_source::SourceFault;
 

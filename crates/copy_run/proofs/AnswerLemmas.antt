@@ -1,7 +1,7 @@
 -- What the last step gives the answer of a run.
-use Rattle.std.proofs.Common.{◌≡◌, ℕ, ◌+◌, ◌-◌, ◌^◌, ◌<◌, ◌≤◌, min, List, get_or, refl, ap, subst, sym, arith}
+use Rattle.std.proofs.Common.{◌≡◌, ℕ, ◌≤◌, List, get_or, subst, sym, arith}
 use Rattle.std.proofs.lemmas.Option.{slice_get-get_or}
-use Rattle.std.specs.Prelude.{Err, None, Ok, Option, Result, Some}
+use Rattle.std.specs.Prelude.{Err, None, Ok, Option, Some}
 use Rattle.bench.specs.declared.Dev.{Dev}
 use Rattle.bench.specs.declared.Dev.TheVariants.{Journal, Target}
 use Rattle.bench.specs.Disk.{Disk}
@@ -21,7 +21,6 @@ use Rattle.copier.specs.Runs.{ClearsTheRange, HasStepCause, SameTarget}
 use Rattle.copier.specs.Steps.{IsUnitNeed}
 use Rattle.copier.specs.declared.faults.CopyFault.{CopyFault}
 use Rattle.copier.specs.declared.faults.CopyFault.TheVariants.{TargetTooSmall, JournalHeld, NoJournal, JournalForeign, SourceShort, Missing, FileFault, DeviceFault, RangeDiffers, NoMemory}
-use Rattle.copier.specs.declared.steps.Step.{Step}
 use Rattle.copier.specs.declared.steps.Step.TheVariants as did
 use Rattle.copier_course.specs.Courses.{IsCopyJob, IsCourse, need_of}
 use Rattle.copier_course.specs.declared.courses.Course.{Course}

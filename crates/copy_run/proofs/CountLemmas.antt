@@ -1,6 +1,6 @@
 -- What the steps add to the numbers of a run, and that they end.
-use Rattle.std.proofs.Common.{◌≡◌, ℕ, ◌+◌, ◌<◌, ◌≤◌, List, refl, subst, sym, arith}
-use Rattle.std.specs.Prelude.{Err, None, Ok, Option, Some}
+use Rattle.std.proofs.Common.{◌≡◌, ℕ, ◌+◌, ◌<◌, ◌≤◌, List, refl, arith}
+use Rattle.std.specs.Prelude.{Err, None, Ok, Option}
 use Rattle.bench.specs.declared.Dev.TheVariants.{Journal, Target}
 use Rattle.bench.specs.Disk.{Disk}
 use Rattle.copy_states.specs.Starts.{Pair}
@@ -10,9 +10,8 @@ use Rattle.copier.specs.declared.steps.Step.{Step}
 use Rattle.copier.specs.declared.steps.Step.TheVariants as did
 use Rattle.copier_course.specs.declared.courses.Course.{Course}
 use Rattle.copier_course.specs.declared.jobs.CopyJob.{CopyJob}
-use Rattle.copy_tally.specs.Laws.{DoneHaveAll, OpenedHaveNone, Stands, StepsAddUp, kept_by, written_by}
-use Rattle.copy_run.specs.Runs.{HasTally}
-use Rattle.copy_run.specs.Steps.{AreCounted, IsGoing, IsUnderWay, StepsAreTallied, unit_in}
+use Rattle.copy_tally.specs.Laws.{DoneHaveAll, Stands, StepsAddUp, kept_by, written_by}
+use Rattle.copy_run.specs.Steps.{AreCounted, IsGoing, IsUnderWay, StepsAreTallied}
 use Rattle.copy_run.specs.declared.running.Tally.{Tally}
 
 pub stands_at : (job : CopyJob) (source : Option (List ℕ)) (start : Pair) (c : Course) (a : Disk) → IsSound job (Ok c) → Fits job (Ok c) a →

@@ -3,19 +3,17 @@ use Rattle.std.proofs.Common.{◌≡◌, ℕ, List, [], Contains, refl, ap, subs
 use Rattle.std.specs.Prelude.{Err, None, Ok, Option, Some}
 use Rattle.bench.proofs.DiskLemmas.{keeps_then, looked_keeps, runs_then}
 use Rattle.bench.specs.declared.Dev.TheVariants.{Target}
-use Rattle.bench.specs.Disk.{Disk, Keeps, Looked, Runs}
+use Rattle.bench.specs.Disk.{Disk, Runs}
 use Rattle.block_map.specs.declared.maps.BlockMap.{BlockMap}
 use Rattle.outside.specs.Files.{Tree}
 use Rattle.journal_format.specs.declared.jobs.JobId.{JobId}
 use Rattle.copy_laws.specs.Marks.{AreCopied}
 use Rattle.copy_laws.specs.Narrowing.{IsNear}
 use Rattle.copy_stages.specs.Stages.{KeepsOwn}
-use Rattle.copy_states.specs.Standing.{Since}
-use Rattle.copy_states.specs.Starts.{Pair}
 use Rattle.copier.proofs.StepLemmas.{rests_near}
 use Rattle.copier.specs.Beginnings.{BeginsIn}
-use Rattle.copier.specs.Copiers.{CameAlong, Fits, IsSound, Progress, WindowReads}
-use Rattle.copier.specs.Runs.{IsTold, StaysNear, StepGoesAlong, StepKeepsSince, StepKeepsWindow}
+use Rattle.copier.specs.Copiers.{Fits, IsSound, Progress, WindowReads}
+use Rattle.copier.specs.Runs.{StaysNear, StepGoesAlong, StepKeepsSince, StepKeepsWindow}
 use Rattle.copier.specs.Steps.{GoesTo}
 use Rattle.copier.specs.declared.steps.Step.{Step}
 use Rattle.copier.specs.declared.steps.Step.TheVariants as did
@@ -64,7 +62,7 @@ under_way told file job was a sound begins fits = record {
 pub window_stays : (job : CopyJob) (now next : Progress) (step : Step) → GoesTo job now next (Ok step) → window_in next ≡ window_in now
 window_stays job (Ok c) (Ok d) (did.Unit k) to = ap (λ (x : Course). x.window) to.same
 window_stays job (Ok c) (Ok d) (did.Kept k) to = ap (λ (x : Course). x.window) to
-window_stays job (Ok c) (Ok d) (did.Range r) to = to.window
+window_stays job (Ok c) (Ok d) (did.Range r) to = to.0.window
 window_stays job (Ok c) (Ok d) did.Done to = ap (λ (x : Course). x.window) to
 window_stays job (Ok c) (Err kept) step to = absurd to
 window_stays job (Err kept) next step to = absurd to

@@ -4,4 +4,5 @@ pub mod CountLemmas
 pub mod ImageLemmas
 pub mod OpenLemmas
 pub mod PoolLemmas
+pub mod ReadLemmas
 pub mod WorkLemmas

@@ -23,7 +23,6 @@ use Rattle.copier.specs.Faults.{IsOpenFault, IsUnwritten, NoneIsLeft}
 use Rattle.copier.specs.declared.faults.CopyFault.{CopyFault}
 use Rattle.copier.specs.declared.faults.CopyFault.TheVariants.{TargetTooSmall, JournalHeld, NoJournal, JournalForeign, SourceShort, Missing, FileFault, DeviceFault, RangeDiffers, NoMemory}
 use Rattle.copier_course.specs.Courses.{IsCopyJob}
-use Rattle.copier_course.specs.declared.courses.Course.{Course}
 use Rattle.copier_course.specs.declared.jobs.CopyJob.{CopyJob}
 use Rattle.copy_tally.specs.Laws.{OpenedHaveNone, UnitsAreMapped}
 use Rattle.copy_run.proofs.AnswerLemmas.{failed_more}
@@ -126,9 +125,9 @@ pub window_same : (job : CopyJob) (was : Progress) (a b : Disk) → BeginsIn job
 window_same job (Ok c) a b begins fits again w its = by_mode job.mode (c.window ≡ w)
     (λ fresh. begins.window fresh ∙ sym (its.fresh fresh))
     (λ mode.
-      let same : b.reads Journal ≡ a.reads Journal = ap (λ (f : Dev → List ℕ). f Journal) (again mode).reads in
-      let held : IsHeld (a.reads Journal) = subst IsHeld same fits.opened.held in
-      fits.marks.window ∙ ap window_of same ∙ sym (its.held mode held))
+    let same : b.reads Journal ≡ a.reads Journal = ap (λ (f : Dev → List ℕ). f Journal) (again mode).reads in
+    let held : IsHeld (a.reads Journal) = subst IsHeld same fits.opened.held in
+    fits.marks.window ∙ ap window_of same ∙ sym (its.held mode held))
 window_same job (Err fault) a b begins fits again w its = absurd begins
 
 -- ---- what the answer tells of the start
@@ -197,10 +196,10 @@ run_tally job was a b (Err fault) law begins sound fits again fresh along steps 
 run_tally job (Err kept) a b (Ok tally) law begins sound fits again fresh along steps = absurd begins
 run_tally job (Ok c) a b (Ok tally) law begins sound fits again fresh along steps =
     let same : ((start_of a).journal ≡ b.reads Journal) ⊎ (¬ IsHeld (start_of a).journal) =
-        by_mode job.mode (((start_of a).journal ≡ b.reads Journal) ⊎ (¬ IsHeld (start_of a).journal))
-        (λ mode. inr (fresh mode)) (λ mode. inl (sym (ap (λ (f : Dev → List ℕ). f Journal) (again mode).reads))) in
+    by_mode job.mode (((start_of a).journal ≡ b.reads Journal) ⊎ (¬ IsHeld (start_of a).journal))
+    (λ mode. inr (fresh mode)) (λ mode. inl (sym (ap (λ (f : Dev → List ℕ). f Journal) (again mode).reads))) in
     steps (start_of a) (along None)
-    (law job (start_of a) c (b.reads Target) (b.reads Journal) (λ source. stands_at job source (start_of a) c b sound fits (along source)) same)
+    (law job (start_of a) c (b.reads Target) (b.reads Journal) (λ source. stands_at job source (start_of a) c b sound fits (along source)) begins.first same)
 
 pub run_work : (job : CopyJob) → UnitsAreMapped → IsCopyJob job → 4096 + 4 * (80 + job.id.units + job.id.ranges) + most_steps job ≤ most_work job
 run_work job law is = omega (arith, law job.map job.id.unit is.of_map.map is.of_map.unit)

@@ -1,10 +1,10 @@
 -- What the steps of a copier cost.
-use Rattle.std.proofs.Common.{◌≡◌, ◌⊎◌, ℕ, ◌+◌, ◌-◌, ◌*◌, ◌<◌, ◌≤◌, List, [], length, get_or, refl, ap, subst, sym, ◌∙◌, arith, ⊎_elim}
+use Rattle.std.proofs.Common.{◌≡◌, ℕ, ◌+◌, ◌-◌, ◌*◌, ◌<◌, ◌≤◌, List, [], length, get_or, refl, ap, subst, sym, arith, ⊎_elim}
 use Rattle.std.proofs.lemmas.Bool.{cases_lt}
 use Rattle.std.proofs.lemmas.List.{take-take}
 use Rattle.std.proofs.lemmas.List.Sums.{sum_by-take-le, sum_by_more}
 use Rattle.std.proofs.lemmas.Option.{slice_get-get_or}
-use Rattle.std.specs.Prelude.{Err, Ok, Result, Some, slice_index_or, sum_by, take}
+use Rattle.std.specs.Prelude.{Err, Ok, sum_by, take}
 use Rattle.base_fields.specs.declared.spans.Span.{Span}
 use Rattle.bench.proofs.MeterLemmas.{costs_so, costs_then}
 use Rattle.bench.specs.Meter.{Costs, Meter}
@@ -37,7 +37,7 @@ first_more us i j more =
 spent_more : (job : CopyJob) (i j r s : ℕ) → i ≤ j → r ≤ s → spent job i r + 1024 * ((j + s) - (i + r)) ≤ spent job j s
 spent_more job i j r s units ranges = omega (arith, first_more (units_of job.map job.id.unit) i j units, units, ranges)
 
-some_span : Span
+pub some_span : Span
 some_span = record { at = 0; len = 0 }
 
 module _ (job : CopyJob) (c : Course) (is : IsCopyJob job) (course : IsCourse job c) where
@@ -48,19 +48,19 @@ module _ (job : CopyJob) (c : Course) (is : IsCopyJob job) (course : IsCourse jo
   pub unit_within : c.unit ≤ job.id.units
   unit_within = ⊎_elim
       (λ (there : c.range < job.id.ranges).
-        let high : c.unit ≤ first_of (rows_in job) (c.range + 1) = course.position.high there in
-        let within : first_of (rows_in job) (c.range + 1) ≤ job.id.units = first_within job.id job.map (c.range + 1) is.of_map (omega (arith, there)) in
-        omega (arith, high, within))
+      let high : c.unit ≤ first_of (rows_in job) (c.range + 1) = course.position.high there in
+      let within : first_of (rows_in job) (c.range + 1) ≤ job.id.units = first_within job.id job.map (c.range + 1) is.of_map (omega (arith, there)) in
+      omega (arith, high, within))
       (λ (past : job.id.ranges ≤ c.range).
-        let end : c.unit ≡ job.id.units = course.position.end (omega (arith, past, range_within)) in
-        omega (arith, end))
+      let end : c.unit ≡ job.id.units = course.position.end (omega (arith, past, range_within)) in
+      omega (arith, end))
       (cases_lt c.range job.id.ranges)
 
   pub spent_within : spent job c.unit c.range ≤ most_steps job
   spent_within = omega (arith, unit_within, range_within, sum_by-take-le (λ (u : Span). u.len) (units_of job.map job.id.unit) c.unit)
 
   -- the present unit, where there is one
-  unit_there : IsInside job c → IsUnitAt job.id job.map c.unit (get_or (units_of job.map job.id.unit) c.unit some_span)
+  pub unit_there : IsInside job c → IsUnitAt job.id job.map c.unit (get_or (units_of job.map job.id.unit) c.unit some_span)
   unit_there inside = slice_get-get_or (units_of job.map job.id.unit) c.unit some_span (omega (arith, inside_below job c is course inside, is.of_map.units))
 
   unit_spent : IsInside job c → spent job c.unit c.range + (1024 + (get_or (units_of job.map job.id.unit) c.unit some_span).len) ≡ spent job (c.unit + 1) c.range
@@ -75,7 +75,7 @@ module _ (job : CopyJob) (c : Course) (is : IsCopyJob job) (course : IsCourse jo
   row_few : IsBehind job c → units_in_range job c.range ≤ job.id.units
   row_few behind =
       let next : first_of (rows_in job) (c.range + 1) ≡ first_of (rows_in job) c.range + length (get_or (rows_in job) c.range []) =
-          first_next (rows_in job) c.range [] (omega (arith, behind.there, rows_length job.id job.map, is.of_map.ranges)) in
+      first_next (rows_in job) c.range [] (omega (arith, behind.there, rows_length job.id job.map, is.of_map.ranges)) in
       omega (arith, next, behind.end, unit_within)
 
   -- ---- a step
@@ -89,7 +89,7 @@ module _ (job : CopyJob) (c : Course) (is : IsCopyJob job) (course : IsCourse jo
       let unit : d.unit ≡ c.unit + 1 = ap (λ (x : Course). x.unit) to.same in
       let range : d.range ≡ c.range = ap (λ (x : Course). x.range) to.same in
       let most : spent job c.unit c.range + (1024 + u.len) ≡ spent job d.unit d.range = subst (λ (r : ℕ). spent job c.unit c.range + (1024 + u.len) ≡ spent job d.unit r) (sym range)
-          (subst (λ (n : ℕ). spent job c.unit c.range + (1024 + u.len) ≡ spent job n c.range) (sym unit) (unit_spent at.inside)) in
+      (subst (λ (n : ℕ). spent job c.unit c.range + (1024 + u.len) ≡ spent job n c.range) (sym unit) (unit_spent at.inside)) in
       costs_so (costs_then first more) (omega (arith, most))
   step_spent d (did.Kept k) old mid new next is_next to costs first =
       let named : CostsFor job (need.Kept k) (Ok (did.Kept k)) mid new = subst (λ (n : Need). CostsFor job n (Ok (did.Kept k)) mid new) is_next costs in
@@ -102,7 +102,7 @@ module _ (job : CopyJob) (c : Course) (is : IsCopyJob job) (course : IsCourse jo
       let more : Costs 1024 mid new = named in
       let end : c.unit ≡ first_of (rows_in job) (c.range + 1) = (range_next job c course r is_next).behind.end in
       let low : first_of (rows_in job) d.range ≤ d.unit = next.position.low in
-      let later : c.range < d.range = to.later in
+      let later : c.range < d.range = to.0.later in
       let rise : first_of (rows_in job) (c.range + 1) ≤ first_of (rows_in job) d.range = first_rises (rows_in job) (c.range + 1) d.range (omega (arith, later)) in
       let unit : c.unit ≤ d.unit = omega (arith, end, low, rise) in
       costs_so (costs_then first more) (omega (arith, spent_more job c.unit d.unit c.range d.range unit (omega (arith, later)), unit, later))

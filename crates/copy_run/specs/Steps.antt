@@ -1,7 +1,6 @@
 -- What the steps of a copier do, from its opening to their answer: was is what it had come to when it was opened, now
 -- what it has come to; old is what the devices were then, disk what they are.
 use Rattle.std.specs.Prelude.{◌≡◌, ℕ, ◌+◌, ◌*◌, List, Option, None, Some, Result, Ok, Err, sum_by, take}
-use Rattle.base_fields.specs.declared.spans.Span.{Span}
 use Rattle.bench.specs.Disk.{Disk, EachPair, Runs}
 use Rattle.bench.specs.Meter.{Meter}
 use Rattle.block_map.specs.Units.{units_of}

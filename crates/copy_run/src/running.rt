@@ -13,7 +13,7 @@ ghost use Rattle.copier.specs.Faults.{IsUnwritten, NoneIsLeft};
 ghost use Rattle.copier.specs.Pools.{HasBuffer, UsesSlot};
 ghost use Rattle.copier_course.specs.Courses.{IsCopyJob};
 ghost use Rattle.copy_run.specs.Faults.{IsRunFault, most_work};
-ghost use Rattle.copy_run.specs.Runs.{OpensFor, RunHasOutcome, RunIsDone, RunIsNarrow, RunIsTallied, RunKeepsMarks, RunKeepsSince};
+ghost use Rattle.copy_run.specs.Runs.{OpensFor, RunHasOutcome, RunIsDone, RunIsNarrow, RunIsTallied, RunKeepsMarks, RunKeepsSince, TellsFile};
 ghost use Rattle.copy_run.specs.Steps.{Adds, IsLastFault, StepsAreTallied, StepsHaveOutcome, StepsStayNear, most_steps};
 
 use bench::Bench;
@@ -64,6 +64,7 @@ pub fn copy_all<F: Files, B: Bench>(
     ensures cleared { B.told → IfErr result (NoneIsLeft job.now (B.disk bench.new)) }
     ensures unwritten { B.told → IfErr result (λ fault. IsUnwritten fault → Looked (B.disk bench.old) (B.disk bench.new)) }
     ensures held { B.told → job.now.mode ≡ Mode.Fresh → IsHeld ((B.disk bench.old).reads Dev.Journal) → Looked (B.disk bench.old) (B.disk bench.new) }
+    ensures read { F.told → TellsFile (F.file files.old job.now.source) result }
 
     // Told or not.
     ensures cause { IfErr result (IsRunFault B.told job.now (B.disk bench.new) (F.counts files.old) (F.counts files.new) (B.meter bench.old) (B.meter bench.new)) }
@@ -103,6 +104,7 @@ fn take_steps<F: Files, B: Bench>(
     ensures tally { B.told → StepsAreTallied copier.old.job copier.old.progress (B.disk bench.old) result }
     ensures outcome { B.told → StepsHaveOutcome F.told (F.file files.old copier.old.job.source) copier.old.job copier.old.progress (B.disk bench.old) result }
     ensures cleared { B.told → IfErr result (NoneIsLeft copier.old.job (B.disk bench.new)) }
+    ensures read { F.told → TellsFile (F.file files.old copier.old.job.source) result }
     ensures cause { IfErr result (IsLastFault B.told copier.old.job (B.disk bench.new) (F.counts files.old) (F.counts files.new) (B.meter bench.old) (B.meter bench.new)) }
     ensures none_fell { NoneFell (F.counts files.old) (F.counts files.new) }
     ensures same_files { F.file files.new ≡ F.file files.old }

@@ -1,18 +1,36 @@
 -- What holds of any words where memory is refused for them.
 use lib.Count.{ones}
-use Rattle.std.proofs.Common.{◌≡◌, ◌+◌, ◌≤◌, ℕ, List, [], Option, Some, None, refl, arith, inl}
-use Rattle.std.specs.Prelude.{length}
+use Rattle.std.proofs.Common.{◌≡◌, ◌+◌, ◌≤◌, ℕ, List, [], Option, Some, None, Result, Ok, Err, refl, arith, inl}
+use Rattle.std.specs.Prelude.{IfErr, length}
 use Rattle.outside.specs.Counts.{Counts}
+use Rattle.outside.specs.Files.{Tree}
 use Rattle.answer_lines.specs.declared.answer.Answer.TheVariants.{NoMemory}
 use Rattle.bench.specs.Meter.{CostsOn, Meter}
-use Rattle.bench.specs.declared.Dev.TheVariants.{Target}
+use Rattle.bench.specs.declared.Dev.TheVariants as dev
 use Rattle.block_map.specs.Maps.{IsMap}
 use Rattle.block_map.specs.declared.maps.BlockMap.{BlockMap}
 use Rattle.list_job.specs.declared.fault.ListFault.TheVariants as list
 use Rattle.verify_job.specs.Devices.{IsBounded, most_work}
+use Rattle.bench.proofs.DiskLemmas.{looked_keeps}
+use Rattle.bench.specs.Disk.{Disk, Looked}
+use Rattle.bench.specs.declared.Dev.{Dev}
+use Rattle.base_fields.specs.Numbers.{IsPowerBetween}
+use Rattle.copier.specs.declared.faults.CopyFault.{CopyFault}
+use Rattle.copier_course.specs.declared.jobs.CopyJob.{CopyJob}
+use Rattle.copy_job.proofs.LookLemmas.{marks_looked, narrow_looked, own_looked, since_looked}
+use Rattle.copy_job.proofs.RunLemmas.{each_job, no_cost, nothing_done}
+use Rattle.copy_job.specs.Devices.{IsBounded as IsCopyBounded}
+use Rattle.copy_job.specs.Said.{copying_said}
+use Rattle.copy_job.specs.declared.faults.CopyJobFault.{CopyJobFault}
 use Rattle.copy_job.specs.declared.faults.CopyJobFault.TheVariants as copy
+use Rattle.copy_job.specs.declared.requests.CopyRequest.{CopyRequest}
+use Rattle.copy_run.specs.Runs.{RunIsNarrow, RunKeepsMarks, RunKeepsSince}
+use Rattle.copy_run.specs.declared.running.Tally.{Tally}
+use Rattle.copy_stages.specs.Stages.{KeepsOwn}
+use Rattle.device_commands.specs.CopyArm.{Tells}
 use Rattle.verify_job.specs.declared.faults.VerifyJobFault.TheVariants as verify
-use Rattle.image_jobs.specs.OnDevices.{HasBound}
+use Rattle.image_jobs.specs.OnDevices.{HasBill, HasBound, HasForgotten, IsAsBefore, KeepsItsJournal, KeepsMarks, KeepsSince, LeavesDevices}
+use Rattle.image_jobs.specs.OnDevices.{LeavesUnsaid, StaysNarrow, WritesNothing, of_copy}
 use Rattle.image_jobs.specs.Run.{HasCause}
 use Rattle.image_jobs.specs.declared.request.Command.{Command}
 use Rattle.image_jobs.specs.declared.request.Command.TheVariants.{Build, Map, Copy, Forget, Verify, List as Listed}
@@ -47,7 +65,7 @@ no_map_holds = record {
   below = λ k d below. absurd (omega (arith, below));
 }
 
-nothing_costs : (n : ℕ) (meter : Meter) → CostsOn Target n meter meter
+nothing_costs : (n : ℕ) (meter : Meter) → CostsOn dev.Target n meter meter
 nothing_costs n meter = record {
   none_fell = omega arith;
   other = refl;
@@ -57,10 +75,118 @@ nothing_costs n meter = record {
   sure = refl;
 }
 
+nothing_on : (device : Dev) (n : ℕ) (meter : Meter) → CostsOn device n meter meter
+nothing_on device n meter = record {
+  none_fell = omega arith;
+  other = refl;
+  no_less = omega arith;
+  work = omega arith;
+  room = refl;
+  sure = refl;
+}
+
+some_unit : IsPowerBetween 65536 4194304 65536
+unfolding ones
+some_unit = record { power = refl; not_below = omega arith; not_above = omega arith }
+
+-- the bound is one of the words alone
+copy_bounded : (request : CopyRequest) (meter : Meter) → IsCopyBounded request meter meter
+copy_bounded request meter =
+    let bound = nothing_done (record request { unit = 65536 }) some_unit meter in
+    record { job = bound.job; holds = bound.holds; costs = bound.costs }
+
 pub nothing_bounded : (command : Option Command) (meter : Meter) → HasBound command meter meter
 nothing_bounded None meter = nothing_costs 0 meter
 nothing_bounded (Some (Build request)) meter = nothing_costs 0 meter
 nothing_bounded (Some (Map mapping)) meter = nothing_costs 0 meter
+nothing_bounded (Some (Copy request)) meter = copy_bounded request meter
+nothing_bounded (Some (Forget journal)) meter = nothing_on dev.Journal _ meter
 nothing_bounded (Some (Verify map target)) meter =
     record { map = no_map; holds = no_map_holds; costs = nothing_costs (most_work (length target) no_map) meter }
 nothing_bounded (Some (Listed image)) meter = nothing_costs 0 meter
+
+pub nothing_billed : (command : Option Command) (file : Tree) (meter : Meter) → HasBill command file meter meter
+nothing_billed None file meter = nothing_on dev.Target 0 meter
+nothing_billed (Some (Build request)) file meter = nothing_on dev.Target 0 meter
+nothing_billed (Some (Map mapping)) file meter = nothing_on dev.Target 0 meter
+nothing_billed (Some (Copy request)) file meter = no_cost _ meter
+nothing_billed (Some (Forget journal)) file meter = nothing_on dev.Journal _ meter
+nothing_billed (Some (Verify map target)) file meter = nothing_on dev.Target _ meter
+nothing_billed (Some (Listed image)) file meter = nothing_on dev.Target 0 meter
+
+-- what is said of a copy's devices holds of those to which nothing was written
+pub of_none : (command : Option Command) (file : Tree) (P : CopyJob → Type 0) → ((job : CopyJob) → P job) → of_copy command file P
+of_none None file P each = tt
+of_none (Some (Build request)) file P each = tt
+of_none (Some (Map mapping)) file P each = tt
+of_none (Some (Copy request)) file P each = each_job (copying_said file request) P each
+of_none (Some (Forget journal)) file P each = tt
+of_none (Some (Verify map target)) file P each = tt
+of_none (Some (Listed image)) file P each = tt
+
+pub none_since : (command : Option Command) (told : Type 0) (file : Tree) {a b : Disk} → Looked a b → KeepsSince command told file a b
+none_since None told file {a} {b} looked = tt
+none_since (Some (Build request)) told file {a} {b} looked = tt
+none_since (Some (Map mapping)) told file {a} {b} looked = tt
+none_since (Some (Copy request)) told file {a} {b} looked =
+    each_job (copying_said file request) (λ job. RunKeepsSince told (file job.source) job a b)
+    (λ job. since_looked told (file job.source) job looked)
+none_since (Some (Forget journal)) told file {a} {b} looked = λ id m source before. looked_keeps looked
+none_since (Some (Verify map target)) told file {a} {b} looked = tt
+none_since (Some (Listed image)) told file {a} {b} looked = tt
+
+pub none_narrow : (command : Option Command) (told : Type 0) (file : Tree) {a b : Disk} → Looked a b → StaysNarrow command told file a b
+none_narrow command told file {a} {b} looked =
+    of_none command file (λ job. RunIsNarrow told (file job.source) job a b) (λ job. narrow_looked told (file job.source) job looked)
+
+pub none_marks : (command : Option Command) (told : Type 0) (file : Tree) {a b : Disk} → Looked a b → KeepsMarks command told file a b
+none_marks command told file {a} {b} looked =
+    of_none command file (λ job. RunKeepsMarks told (file job.source) job a b) (λ job. marks_looked told (file job.source) job looked)
+
+pub none_own : (command : Option Command) (file : Tree) {a b : Disk} → Looked a b → KeepsItsJournal command file a b
+none_own command file {a} {b} looked = of_none command file (λ job. KeepsOwn job.id a b) (λ job. own_looked job looked)
+
+-- want of memory tells nothing of a run
+pub none_told : (command : Option Command) (file : Tree) (P : CopyJob → Result Tally CopyFault → Type 0)
+    → of_copy command file (λ job. Tells (P job) NoMemory)
+none_told command file P = of_none command file (λ job. Tells (P job) NoMemory) (λ job. tt)
+
+pub none_forgotten : (command : Option Command) (a b : Disk) → HasForgotten command a b NoMemory
+none_forgotten None a b = tt
+none_forgotten (Some (Build request)) a b = tt
+none_forgotten (Some (Map mapping)) a b = tt
+none_forgotten (Some (Copy request)) a b = tt
+none_forgotten (Some (Forget journal)) a b = tt
+none_forgotten (Some (Verify map target)) a b = tt
+none_forgotten (Some (Listed image)) a b = tt
+
+pub none_written : (command : Option Command) {a b : Disk} → Looked a b → WritesNothing command a b NoMemory
+none_written None {a} {b} looked = tt
+none_written (Some (Build request)) {a} {b} looked = tt
+none_written (Some (Map mapping)) {a} {b} looked = tt
+none_written (Some (Copy request)) {a} {b} looked = λ why. looked
+none_written (Some (Forget journal)) {a} {b} looked = λ why. looked
+none_written (Some (Verify map target)) {a} {b} looked = tt
+none_written (Some (Listed image)) {a} {b} looked = tt
+
+pub none_left : (command : Option Command) {a b : Disk} → IsAsBefore a b → LeavesDevices command a b
+none_left None {a} {b} same = same
+none_left (Some (Build request)) {a} {b} same = same
+none_left (Some (Map mapping)) {a} {b} same = same
+none_left (Some (Copy request)) {a} {b} same = tt
+none_left (Some (Forget journal)) {a} {b} same = tt
+none_left (Some (Verify map target)) {a} {b} same = same
+none_left (Some (Listed image)) {a} {b} same = same
+
+pub none_unsaid : (command : Option Command) (file : Tree) {a b : Disk} → IsAsBefore a b → LeavesUnsaid command file a b
+none_unsaid None file {a} {b} same = tt
+none_unsaid (Some (Build request)) file {a} {b} same = tt
+none_unsaid (Some (Map mapping)) file {a} {b} same = tt
+none_unsaid (Some (Copy request)) file {a} {b} same = at (copying_said file request)
+  where
+    at : (said : Result CopyJob CopyJobFault) → IfErr said (λ refusal. IsAsBefore a b)
+    at (Ok job) = tt
+    at (Err refusal) = same
+none_unsaid (Some (Forget journal)) file {a} {b} same = tt
+none_unsaid (Some (Verify map target)) file {a} {b} same = tt
+none_unsaid (Some (Listed image)) file {a} {b} same = tt

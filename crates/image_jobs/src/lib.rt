@@ -10,7 +10,9 @@ mod reading;
 mod request;
 mod running;
 
+pub use chain_laws::{chains_keep_since, done_chains_are_copied, first_starts_have_since};
 pub use conf_sections::Vars;
 pub use device_commands::DeviceNames;
+pub use image_laws::{images_are_on_the_target, mapped_texts_are_the_map};
 pub use request::device_names;
 pub use running::run;

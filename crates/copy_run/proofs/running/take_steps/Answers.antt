@@ -21,8 +21,9 @@ use Rattle.copy_run.proofs.AnswerLemmas.{done_outcome, last_cause, last_cleared,
 use Rattle.copy_run.proofs.CountLemmas.{all_counted, counted_on, few_begins, few_counted, fewer_left, none_counted}
 use Rattle.copy_run.proofs.ImageLemmas.{at_first, going_begins, going_on, near_then, own_then, since_then, under_way, way_on}
 use Rattle.copy_run.proofs.PoolLemmas.{buffer_stays, no_use, uses_then}
+use Rattle.copy_run.proofs.ReadLemmas.{last_read}
 use Rattle.copy_run.proofs.WorkLemmas.{spent_at_last, spent_on, spent_when_done}
-use Rattle.copy_run.specs.Runs.{RunKeepsSince}
+use Rattle.copy_run.specs.Runs.{RunKeepsSince, TellsFile}
 use Rattle.copy_run.specs.Steps.{AreCounted, IsLastFault, IsUnderWay, StepsAreTallied, StepsHaveOutcome, StepsStayNear, most_steps, range_in, spent, unit_in}
 use Rattle.copy_run.specs.declared.running.Tally.{Tally}
 use Rattle.copy_run.proofs.running.take_steps.Goals as goal
@@ -70,6 +71,8 @@ returns-in_err-step-clause-near g c told =
 
 pub returns-in_err-step-clause-outcome : goal.returns-in_err-step-clause-outcome
 returns-in_err-step-clause-outcome g c told =
+    let target = g.met.B.Bench.reads_leave told c.steps.bench Target in
+    let journal = g.met.B.Bench.reads_leave told c.steps.bench Journal in
     let told_files = g.F.Files.told in
     let file = g.F.Files.file c.steps.files c.steps.copier.job.source in
     let job = c.steps.copier.job in
@@ -77,22 +80,17 @@ returns-in_err-step-clause-outcome g c told =
     let now = c.steps.copier.progress in
     let a = g.B.Bench.disk c.args.bench.now in
     let b = g.B.Bench.disk c.steps.bench in
-    let e = g.B.Bench.disk c.step.new.bench in
     let inv = c.steps.invariant in
     let fault = c.in_err-step.field-0.0 in
     let same : c.from_residual.result ≡ Err fault = search rules in
     at_first (λ (t : Tree) (j : CopyJob). StepsHaveOutcome told_files (t j.source) j was a c.from_residual.result) inv.same_files inv.of_job
-    (subst (λ (r : Result Tally CopyFault). StepsHaveOutcome told_files file job was a r) (sym same) (last_outcome told_files file job was now a b (inv.way told) (g.met.B.Bench.reads_leave told c.steps.bench Target) (g.met.B.Bench.reads_leave told c.steps.bench Journal) fault (c.in_err-step.ensures.ends told)))
+    (subst (λ (r : Result Tally CopyFault). StepsHaveOutcome told_files file job was a r) (sym same)
+    (last_outcome told_files file job was now a b (inv.way told) target journal fault (c.in_err-step.ensures.ends told)))
 
 pub returns-in_err-step-clause-cleared : goal.returns-in_err-step-clause-cleared
 returns-in_err-step-clause-cleared g c told =
-    let told_files = g.F.Files.told in
-    let file = g.F.Files.file c.steps.files c.steps.copier.job.source in
     let job = c.steps.copier.job in
-    let was = c.args.copier.now.progress in
     let now = c.steps.copier.progress in
-    let a = g.B.Bench.disk c.args.bench.now in
-    let b = g.B.Bench.disk c.steps.bench in
     let e = g.B.Bench.disk c.step.new.bench in
     let inv = c.steps.invariant in
     let fault = c.in_err-step.field-0.0 in
@@ -102,12 +100,8 @@ returns-in_err-step-clause-cleared g c told =
 
 pub returns-in_err-step-clause-cause : goal.returns-in_err-step-clause-cause
 returns-in_err-step-clause-cause g c =
-    let told_files = g.F.Files.told in
-    let file = g.F.Files.file c.steps.files c.steps.copier.job.source in
     let job = c.steps.copier.job in
-    let was = c.args.copier.now.progress in
     let now = c.steps.copier.progress in
-    let a = g.B.Bench.disk c.args.bench.now in
     let b = g.B.Bench.disk c.steps.bench in
     let e = g.B.Bench.disk c.step.new.bench in
     let inv = c.steps.invariant in
@@ -136,7 +130,8 @@ returns-in_err-step-clause-bill g c =
 pub returns-in_err-step-clause-pool : goal.returns-in_err-step-clause-pool
 returns-in_err-step-clause-pool g c =
     let inv = c.steps.invariant in
-    uses_then _ _ c.steps.pool _ inv.pool (subst (λ (s : ℕ). UsesSlot s c.steps.pool c.step.new.pool) (ap (λ (l : Held). l.slot) inv.lease) c.step.ensures.pool)
+    uses_then _ _ c.steps.pool _ inv.pool (subst (λ (s : ℕ). UsesSlot s c.steps.pool c.step.new.pool)
+    (ap (λ (l : Held). l.slot) inv.lease) c.step.ensures.pool)
 
 pub returns-in-Done-clause-since : goal.returns-in-Done-clause-since
 returns-in-Done-clause-since g c told =
@@ -181,6 +176,8 @@ returns-in-Done-clause-near g c told =
 
 pub returns-in-Done-clause-outcome : goal.returns-in-Done-clause-outcome
 returns-in-Done-clause-outcome g c told =
+    let target = g.met.B.Bench.reads_leave told c.steps.bench Target in
+    let journal = g.met.B.Bench.reads_leave told c.steps.bench Journal in
     let told_files = g.F.Files.told in
     let file = g.F.Files.file c.steps.files c.steps.copier.job.source in
     let job = c.steps.copier.job in
@@ -188,34 +185,25 @@ returns-in-Done-clause-outcome g c told =
     let now = c.steps.copier.progress in
     let a = g.B.Bench.disk c.args.bench.now in
     let b = g.B.Bench.disk c.steps.bench in
-    let e = g.B.Bench.disk c.step.new.bench in
     let inv = c.steps.invariant in
+    let ending = subst (λ (x : Step). StepEnds told_files file job now b (Ok x)) c.in-Done.is (c.in_ok-step.ensures.ends told) in
     at_first (λ (t : Tree) (j : CopyJob). StepsHaveOutcome told_files (t j.source) j was a (Ok c.steps.tally)) inv.same_files inv.of_job
-    (done_outcome told_files file job was now a b (inv.way told) (g.met.B.Bench.reads_leave told c.steps.bench Target) (g.met.B.Bench.reads_leave told c.steps.bench Journal) c.steps.tally (subst (λ (x : Step). StepEnds told_files file job now b (Ok x)) c.in-Done.is (c.in_ok-step.ensures.ends told)))
+    (done_outcome told_files file job was now a b (inv.way told) target journal c.steps.tally ending)
 
 pub returns-in-Done-clause-tally : goal.returns-in-Done-clause-tally
 returns-in-Done-clause-tally g c told =
-    let told_files = g.F.Files.told in
-    let file = g.F.Files.file c.steps.files c.steps.copier.job.source in
     let job = c.steps.copier.job in
     let was = c.args.copier.now.progress in
     let now = c.steps.copier.progress in
     let a = g.B.Bench.disk c.args.bench.now in
-    let b = g.B.Bench.disk c.steps.bench in
-    let e = g.B.Bench.disk c.step.new.bench in
     let inv = c.steps.invariant in
+    let next = subst (λ (x : Step). next_of job now ≡ needed x) c.in-Done.is c.in_ok-step.ensures.next in
     subst (λ (j : CopyJob). StepsAreTallied j was a (Ok c.steps.tally)) inv.of_job
-    (all_counted job was now a c.steps.tally c.runs_are_tallied.ensures.done inv.going inv.sound (subst (λ (x : Step). next_of job now ≡ needed x) c.in-Done.is c.in_ok-step.ensures.next) inv.units (inv.counted told))
+    (all_counted job was now a c.steps.tally c.runs_are_tallied.ensures.done inv.going inv.sound next inv.units (inv.counted told))
 
 pub returns-in-Done-clause-done : goal.returns-in-Done-clause-done
 returns-in-Done-clause-done g c told =
-    let told_files = g.F.Files.told in
-    let file = g.F.Files.file c.steps.files c.steps.copier.job.source in
     let job = c.steps.copier.job in
-    let was = c.args.copier.now.progress in
-    let now = c.steps.copier.progress in
-    let a = g.B.Bench.disk c.args.bench.now in
-    let b = g.B.Bench.disk c.steps.bench in
     let e = g.B.Bench.disk c.step.new.bench in
     let inv = c.steps.invariant in
     subst (λ (j : CopyJob). IsDone j e) inv.of_job (subst (λ (x : Step). ShowsDone job e (Ok x)) c.in-Done.is (c.in_ok-step.ensures.done told))
@@ -228,12 +216,15 @@ returns-in-Done-clause-bill g c =
     let old = g.B.Bench.meter c.args.bench.now in
     let mid = g.B.Bench.meter c.steps.bench in
     let new = g.B.Bench.meter c.step.new.bench in
-    subst (λ (j : CopyJob). Costs (most_steps j) old new) inv.of_job (spent_when_done job now old mid new inv.going inv.sound (subst (λ (x : Step). next_of job now ≡ needed x) c.in-Done.is c.in_ok-step.ensures.next) (subst (λ (x : Step). CostsFor job (next_of job now) (Ok x) mid new) c.in-Done.is c.in_ok-step.ensures.bill) inv.bill)
+    let next = subst (λ (x : Step). next_of job now ≡ needed x) c.in-Done.is c.in_ok-step.ensures.next in
+    let costs = subst (λ (x : Step). CostsFor job (next_of job now) (Ok x) mid new) c.in-Done.is c.in_ok-step.ensures.bill in
+    subst (λ (j : CopyJob). Costs (most_steps j) old new) inv.of_job (spent_when_done job now old mid new inv.going inv.sound next costs inv.bill)
 
 pub returns-in-Done-clause-pool : goal.returns-in-Done-clause-pool
 returns-in-Done-clause-pool g c =
     let inv = c.steps.invariant in
-    uses_then _ _ c.steps.pool _ inv.pool (subst (λ (s : ℕ). UsesSlot s c.steps.pool c.step.new.pool) (ap (λ (l : Held). l.slot) inv.lease) c.step.ensures.pool)
+    uses_then _ _ c.steps.pool _ inv.pool (subst (λ (s : ℕ). UsesSlot s c.steps.pool c.step.new.pool)
+    (ap (λ (l : Held). l.slot) inv.lease) c.step.ensures.pool)
 
 pub steps-init : goal.steps-init
 steps-init g c =
@@ -281,18 +272,18 @@ steps-preserved g c =
     let is_next = c.in_ok-step.ensures.next in
     let sound : IsSound job next = subst (λ (j : CopyJob). IsSound j next) c.step.ensures.job c.step.ensures.sound in
     let way : g.B.Bench.told → IsUnderWay told_files file job was next a e =
-        λ told. way_on told_files file job was a b e now next step (inv.way told) (c.step.ensures.since told) (c.step.ensures.own told)
-        (c.step.ensures.narrow told) (c.in_ok-step.ensures.window told) (c.in_ok-step.ensures.along told) to in
+    λ told. way_on told_files file job was a b e now next step (inv.way told) (c.step.ensures.since told) (c.step.ensures.own told)
+    (c.step.ensures.narrow told) (c.in_ok-step.ensures.window told) (c.in_ok-step.ensures.along told) to in
     let fits : g.B.Bench.told → Fits job next e = λ told. subst (λ (j : CopyJob). Fits j next e) c.step.ensures.job (c.step.ensures.fits told) in
     let counted : g.B.Bench.told → AreCounted job was next a c.add.new.self.written c.add.new.self.kept =
-        λ told. subst (λ (t : Tally). AreCounted job was next a t.written t.kept) (sym c.add.ensures)
-        (counted_on told_files file job was now next a b e step c.steps.tally.written c.steps.tally.kept c.runs_are_tallied.ensures.steps
-        (inv.way told) (way told) inv.sound sound (inv.fits told) (fits told) is_next to (inv.counted told)) in
+    λ told. subst (λ (t : Tally). AreCounted job was next a t.written t.kept) (sym c.add.ensures)
+    (counted_on told_files file job was now next a b e step c.steps.tally.written c.steps.tally.kept c.runs_are_tallied.ensures.steps
+    (inv.way told) (way told) inv.sound sound (inv.fits told) (fits told) is_next to (inv.counted told)) in
     let few : c.add.new.self.written + c.add.new.self.kept + left_of job next ≤ job.id.units + job.id.ranges =
-        subst (λ (t : Tally). t.written + t.kept + left_of job next ≤ job.id.units + job.id.ranges) (sym c.add.ensures)
-        (few_counted job now next step c.steps.tally.written c.steps.tally.kept (job.id.units + job.id.ranges) c.in_default.not-Done c.in_ok-step.ensures.fewer inv.few) in
+    subst (λ (t : Tally). t.written + t.kept + left_of job next ≤ job.id.units + job.id.ranges) (sym c.add.ensures)
+    (few_counted job now next step c.steps.tally.written c.steps.tally.kept (job.id.units + job.id.ranges) c.in_default.not-Done c.in_ok-step.ensures.fewer inv.few) in
     let bill : Costs (spent job (unit_in next) (range_in next)) old new =
-        spent_on job now next step old mid new inv.sound sound is_next to c.in_ok-step.ensures.bill inv.bill in
+    spent_on job now next step old mid new inv.sound sound is_next to c.in_ok-step.ensures.bill inv.bill in
     record {
       target = subst (λ (x : Both Bool). IsTrue x.target) (sym c.step.ensures.same_names.attached) inv.target;
       journal = subst (λ (x : Both Bool). IsTrue x.journal) (sym c.step.ensures.same_names.attached) inv.journal;
@@ -310,7 +301,8 @@ steps-preserved g c =
       same_files = c.step.ensures.same_files ∙ inv.same_files;
       bill = subst (λ (j : CopyJob). Costs (spent j (unit_in next) (range_in next)) old new) (sym c.step.ensures.job) bill;
       same_names = same_names_then inv.same_names c.step.ensures.same_names;
-      pool = uses_then _ _ c.steps.pool _ inv.pool (subst (λ (s : ℕ). UsesSlot s c.steps.pool c.step.new.pool) (ap (λ (l : Held). l.slot) inv.lease) c.step.ensures.pool);
+      pool = uses_then _ _ c.steps.pool _ inv.pool (subst (λ (s : ℕ). UsesSlot s c.steps.pool c.step.new.pool)
+          (ap (λ (l : Held). l.slot) inv.lease) c.step.ensures.pool);
     }
 
 pub steps-smaller : goal.steps-smaller
@@ -318,3 +310,15 @@ steps-smaller g c =
     let next = c.step.new.self.progress in
     subst (λ (j : CopyJob). left_of j next < left_of c.steps.copier.job c.steps.copier.progress) (sym c.step.ensures.job)
     (fewer_left c.steps.copier.job c.steps.copier.progress next c.in_ok-step.step c.in_default.not-Done c.in_ok-step.ensures.fewer)
+
+pub returns-in_err-step-clause-read : goal.returns-in_err-step-clause-read
+returns-in_err-step-clause-read g c told =
+    let fault = c.in_err-step.field-0.0 in
+    let same : c.from_residual.result ≡ Err fault = search rules in
+    let inv = c.steps.invariant in
+    let tree = g.F.Files.file c.steps.files in
+    let here = last_read g.B.Bench.told tree c.steps.copier.job (g.B.Bench.disk c.steps.bench) (g.F.Files.counts c.steps.files) (g.F.Files.counts c.step.new.files)
+    (g.B.Bench.meter c.steps.bench) (g.B.Bench.meter c.step.new.bench) c.steps.copier.progress fault inv.going inv.sound
+    (c.in_err-step.ensures.source told) c.in_err-step.ensures.cause in
+    at_first (λ (t : Tree) (j : CopyJob). TellsFile (t j.source) c.from_residual.result) inv.same_files inv.of_job
+    (subst (λ (r : Result Tally CopyFault). TellsFile (tree c.steps.copier.job.source) r) (sym same) here)

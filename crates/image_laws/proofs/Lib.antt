@@ -1,0 +1,3 @@
+-- lemmas
+pub mod Maps
+pub mod OnTarget

@@ -1,0 +1,3 @@
+-- definitions that contracts cite
+pub mod Images
+pub mod Laws
