@@ -1,5 +1,5 @@
 -- What is kept where a journal is forgotten.
-use Rattle.std.proofs.Common.{◌⊎◌, ℕ, List, Option, inl, inr, ⊎_elim}
+use Rattle.std.proofs.Common.{ℕ, List, Option, inl, ⊎_elim}
 use Rattle.bench.specs.Disk.{Disk, Keeps, Moves}
 use Rattle.bench.specs.declared.Dev.TheVariants.{Target, Journal}
 use Rattle.bench.proofs.DiskLemmas.{journal_runs}

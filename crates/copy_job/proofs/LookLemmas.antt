@@ -1,5 +1,5 @@
 -- A run behind a look at the devices: all that is said of it from its own start holds from the look's start, too.
-use Rattle.std.proofs.Common.{◌≡◌, ℕ, List, Option, Some, Result, Ok, Err, ap, subst, sym, inl, ◌∙◌, refl, arith}
+use Rattle.std.proofs.Common.{◌≡◌, ℕ, List, Option, Result, Ok, Err, ap, subst, sym, inl, ◌∙◌, refl, arith}
 use Rattle.bench.specs.declared.Dev.{Dev}
 use Rattle.bench.specs.declared.Dev.TheVariants.{Target, Journal}
 use Rattle.bench.specs.Disk.{Disk, IsSettled, Looked, Runs}
@@ -8,7 +8,6 @@ use Rattle.copier.specs.declared.faults.CopyFault.{CopyFault}
 use Rattle.copier_course.specs.declared.jobs.CopyJob.{CopyJob}
 use Rattle.copy_opening.proofs.OpeningLemmas.{looked_opens, opening_is_narrow, opening_keeps_marks}
 use Rattle.copy_opening.specs.Openings.{start_of}
-use Rattle.copy_opening.specs.declared.opening.Mode.{Mode}
 use Rattle.copy_opening.specs.declared.opening.Mode.TheVariants.{Fresh}
 use Rattle.copy_run.specs.Runs.{HasTally, IsOutcome, IsWindowFor, OpensFor, RunHasOutcome, RunIsNarrow, RunIsTallied, RunKeepsMarks, RunKeepsSince}
 use Rattle.copy_run.specs.declared.running.Tally.{Tally}

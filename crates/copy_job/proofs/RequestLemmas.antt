@@ -1,5 +1,5 @@
 -- The job of a request.
-use Rattle.std.proofs.Common.{◌≡◌, List, ℕ, Bool, true, false, Result, Ok, Err, ap, subst, sym, refl}
+use Rattle.std.proofs.Common.{◌≡◌, List, ℕ, Bool, true, false, Result, Ok, Err, ap}
 use Rattle.std.specs.Prelude.{IsOk, MatchBool}
 use Rattle.base_fields.specs.Results.{◌>>=◌, refused_by}
 use Rattle.copier_course.specs.declared.jobs.CopyJob.{CopyJob}

@@ -1,19 +1,25 @@
 -- A copy by the run of the job that is said, and one that isn't run.
 use Rattle.std.proofs.Common.{◌≡◌, ℕ, [], Result, Ok, Err, subst, sym, refl, arith}
-use Rattle.std.specs.Prelude.{IfOk}
+use Rattle.std.specs.Prelude.{◌≤◌, IfErr, IfOk}
 use Rattle.std.proofs.lemmas.List.Elements.{All-nil}
 use Rattle.base_fields.specs.Numbers.{IsPowerBetween}
 use Rattle.bench.specs.Disk.{Disk}
 use Rattle.bench.specs.Meter.{Costs, Meter}
+use Rattle.bench.specs.declared.Dev.{Dev}
+use Rattle.bench.specs.declared.Dev.TheVariants.{Target, Journal}
 use Rattle.block_map.specs.Maps.{IsMap}
 use Rattle.block_map.specs.Units.{cut_of}
 use Rattle.block_map.specs.declared.maps.BlockMap.{BlockMap}
 use Rattle.copier.specs.declared.faults.CopyFault.{CopyFault}
+use Rattle.copier.specs.declared.faults.CopyFault.TheVariants as run
 use Rattle.copier_course.specs.Courses.{IsCopyJob}
 use Rattle.copier_course.specs.declared.jobs.CopyJob.{CopyJob}
-use Rattle.copy_run.specs.Runs.{RunIsNarrow, RunKeepsMarks, RunKeepsSince}
+use Rattle.copy_journal.specs.Faults.{HasFailed}
+use Rattle.copy_run.specs.Faults.{IsRunFault}
+use Rattle.copy_run.specs.Runs.{RunIsNarrow, RunKeepsMarks, RunKeepsSince, TellsFile}
 use Rattle.copy_run.specs.declared.running.Tally.{Tally}
 use Rattle.copy_stages.specs.Stages.{KeepsOwn}
+use Rattle.outside.specs.Counts.{Counts, NoneFell, Rose}
 use Rattle.outside.specs.Files.{Tree}
 use Rattle.copy_job.proofs.LookLemmas.{looked_none, marks_looked, narrow_looked, own_looked, since_looked}
 use Rattle.copy_job.specs.Copies.{OfRun}
@@ -89,6 +95,66 @@ said_marks told file after said job a b same is run =
 pub said_own : (said : Result CopyJob CopyJobFault) (job : CopyJob) (a b : Disk) → said ≡ Ok job → KeepsOwn job.id a b →
     IfOk said (λ job. KeepsOwn job.id a b)
 said_own said job a b is run = job_has (λ (job : CopyJob). KeepsOwn job.id a b) said job is run
+
+pub said_read : (file after : Tree) (said : Result CopyJob CopyJobFault) (job : CopyJob)
+    (answer : Result Tally CopyJobFault) → after ≡ file → said ≡ Ok job → OfRun (TellsFile (after job.source)) answer →
+    IfOk said (λ job. OfRun (TellsFile (file job.source)) answer)
+said_read file after said job answer same is read =
+    job_has (λ (job : CopyJob). OfRun (TellsFile (file job.source)) answer) said job is
+    (subst (λ (f : Tree). OfRun (TellsFile (f job.source)) answer) same read)
+
+-- ---- why a run isn't done
+rose_before : (a b c : ℕ) → a ≤ b → Rose b c → Rose a c
+rose_before a b c before rose = omega (arith, before, rose)
+
+failed_before : (dev : Dev) (a b c : Meter) → a.faults.target ≤ b.faults.target → a.faults.journal ≤ b.faults.journal →
+    HasFailed dev b c → HasFailed dev a c
+failed_before Target a b c target journal failed = rose_before a.faults.target b.faults.target c.faults.target target failed
+failed_before Journal a b c target journal failed = rose_before a.faults.journal b.faults.journal c.faults.journal journal failed
+
+-- by the counts of a whole that the run is the end of
+pub run_caused : (told : Type 0) (job : CopyJob) (disk : Disk) (before mid now : Counts) (a b c : Meter) →
+    NoneFell before mid → a.faults.target ≤ b.faults.target → a.faults.journal ≤ b.faults.journal → (fault : CopyFault) →
+    IsRunFault told job disk mid now b c fault → IsRunFault told job disk before now a c fault
+run_caused told job disk before mid now a b c fell target journal (run.TargetTooSmall has needs) cause = cause
+run_caused told job disk before mid now a b c fell target journal (run.JournalHeld kept finished) cause = cause
+run_caused told job disk before mid now a b c fell target journal run.NoJournal cause = cause
+run_caused told job disk before mid now a b c fell target journal (run.JournalForeign kept given len) cause = cause
+run_caused told job disk before mid now a b c fell target journal (run.SourceShort at) cause =
+    rose_before before.ends mid.ends now.ends fell.ends cause
+run_caused told job disk before mid now a b c fell target journal run.Missing cause =
+    rose_before before.absences mid.absences now.absences fell.absences cause
+run_caused told job disk before mid now a b c fell target journal run.FileFault cause =
+    rose_before before.faults mid.faults now.faults fell.faults cause
+run_caused told job disk before mid now a b c fell target journal (run.DeviceFault dev) cause =
+    failed_before dev a b c target journal cause
+run_caused told job disk before mid now a b c fell target journal (run.RangeDiffers range want got) cause = cause
+run_caused told job disk before mid now a b c fell target journal run.NoMemory cause = cause
+
+pub none_fell : (a : Counts) → NoneFell a a
+none_fell a = record { faults = omega arith; absences = omega arith; ends = omega arith }
+
+by_answer : (told : Type 0) (job : CopyJob) (disk : Disk) (before mid now : Counts) (a b : Meter) → NoneFell before mid →
+    (answer : Result Tally CopyJobFault) → OfRun (λ r. IfErr r (IsRunFault told job disk mid now a b)) answer →
+    OfRun (λ r. IfErr r (IsRunFault told job disk before now a b)) answer
+by_answer told job disk before mid now a b fell (Ok tally) cause = tt
+by_answer told job disk before mid now a b fell (Err Compressed) cause = tt
+by_answer told job disk before mid now a b fell (Err Missing) cause = tt
+by_answer told job disk before mid now a b fell (Err FileFault) cause = tt
+by_answer told job disk before mid now a b fell (Err (Map fault)) cause = tt
+by_answer told job disk before mid now a b fell (Err (TooManyUnits count limit)) cause = tt
+by_answer told job disk before mid now a b fell (Err (DeviceFault dev)) cause = tt
+by_answer told job disk before mid now a b fell (Err (Copy fault)) cause =
+    run_caused told job disk before mid now a a b fell (omega arith) (omega arith) fault cause
+by_answer told job disk before mid now a b fell (Err NoMemory) cause = tt
+
+pub said_caused : (told : Type 0) (disk : Disk) (before mid now : Counts) (a b : Meter)
+    (said : Result CopyJob CopyJobFault) (job : CopyJob) (answer : Result Tally CopyJobFault) → NoneFell before mid →
+    said ≡ Ok job → OfRun (λ r. IfErr r (IsRunFault told job disk mid now a b)) answer →
+    IfOk said (λ job. OfRun (λ r. IfErr r (IsRunFault told job disk before now a b)) answer)
+said_caused told disk before mid now a b said job answer fell is cause =
+    job_has (λ (job : CopyJob). OfRun (λ r. IfErr r (IsRunFault told job disk before now a b)) answer) said job is
+    (by_answer told job disk before mid now a b fell answer cause)
 
 -- ---- work
 pub no_cost : (n : ℕ) (a : Meter) → Costs n a a

@@ -1,5 +1,5 @@
 -- The two devices of a copy: their names, and the work that it makes them.
-use Rattle.std.specs.Prelude.{◌≡◌, ◌⊎◌, ◌↔◌, ℕ, ◌+◌, ◌*◌, ◌<◌, ◌≤◌, List, length, Bool, IsTrue, Option, Some, Result, Ok, Err, slice_index}
+use Rattle.std.specs.Prelude.{◌≡◌, ◌⊎◌, ◌↔◌, ℕ, ◌+◌, ◌*◌, ◌<◌, ◌≤◌, List, length, Bool, IsTrue, Some, Result, Ok, Err, slice_index}
 use Rattle.bench.specs.Disk.{Disk, IsSettled}
 use Rattle.bench.specs.Meter.{Costs, IsAttached, Meter, of_device}
 use Rattle.bench.specs.declared.Dev.{Dev}

@@ -5,7 +5,6 @@ use Rattle.block_map.specs.Units.{max_units}
 use Rattle.copy_journal.specs.Faults.{HasFailed}
 use Rattle.map_source.specs.Faults.{IsShown as IsMapShown, is_counted as is_counted_map}
 use Rattle.outside.specs.Counts.{Counts, Rose}
-use Rattle.copier.specs.declared.faults.CopyFault.{CopyFault}
 use Rattle.copier.specs.declared.faults.CopyFault.TheVariants as run
 use Rattle.copy_job.specs.declared.faults.CopyJobFault.{CopyJobFault}
 use Rattle.copy_job.specs.declared.faults.CopyJobFault.TheVariants.{Compressed, Missing, FileFault, Map, TooManyUnits, DeviceFault, Copy, NoMemory}

@@ -1,9 +1,8 @@
 -- The copy that words ask for, by what the files have.
-use Rattle.std.specs.Prelude.{◌≡◌, ℕ, Bool, not, nat_eq, nat_le, List, [], ◌∷◌, length, codes, Result, Ok, Err}
+use Rattle.std.specs.Prelude.{ℕ, Bool, not, nat_eq, nat_le, List, [], ◌∷◌, length, codes, Result}
 use Rattle.std.specs.List.{ends_with, list_any}
 use Rattle.base_fields.specs.Results.{◌>>=◌, or_else, refused_by, when}
 use Rattle.block_map.specs.Units.{cut_of, max_units, units_of}
-use Rattle.block_map.specs.declared.maps.BlockMap.{BlockMap}
 use Rattle.outside.specs.Files.{Tree}
 use Rattle.copier_course.specs.declared.jobs.CopyJob.{CopyJob}
 use Rattle.journal_format.specs.declared.jobs.JobId.{JobId}

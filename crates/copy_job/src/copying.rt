@@ -54,9 +54,7 @@ pub fn copy_target<F: Files, B: Bench>(
     ensures tally { F.told → B.told → IfOk (copying_said (F.file files.old) request.now) (λ job. OfRun (RunIsTallied job (B.disk bench.old)) result) }
     ensures outcome { F.told → B.told → IfOk (copying_said (F.file files.old) request.now) (λ job. OfRun (RunHasOutcome F.told (F.file files.old job.source) job (B.disk bench.old)) result) }
     ensures cleared { F.told → B.told → IfOk (copying_said (F.file files.old) request.now) (λ job. OfRun (λ answer. IfErr answer (NoneIsLeft job (B.disk bench.new))) result) }
-
     ensures read { F.told → IfOk (copying_said (F.file files.old) request.now) (λ job. OfRun (TellsFile (F.file files.old job.source)) result) }
-
     ensures caused { F.told → IfOk (copying_said (F.file files.old) request.now) (λ job. OfRun (λ answer. IfErr answer (IsRunFault B.told job (B.disk bench.new) (F.counts files.old) (F.counts files.new) (B.meter bench.old) (B.meter bench.new))) result) }
 
     // What is left as it was, whatever the files tell.

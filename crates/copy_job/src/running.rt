@@ -7,7 +7,8 @@ ghost use Rattle.copier.specs.Faults.{NoneIsLeft};
 ghost use Rattle.copier_course.specs.Courses.{IsCopyJob};
 ghost use Rattle.copy_journal.specs.Faults.{HasFailed};
 ghost use Rattle.copy_opening.specs.declared.opening.Mode.{Mode};
-ghost use Rattle.copy_run.specs.Runs.{OpensFor, RunHasOutcome, RunIsDone, RunIsNarrow, RunIsTallied, RunKeepsMarks, RunKeepsSince};
+ghost use Rattle.copy_run.specs.Faults.{IsRunFault};
+ghost use Rattle.copy_run.specs.Runs.{OpensFor, RunHasOutcome, RunIsDone, RunIsNarrow, RunIsTallied, RunKeepsMarks, RunKeepsSince, TellsFile};
 ghost use Rattle.copy_stages.specs.Stages.{KeepsOwn};
 ghost use Rattle.journal_format.specs.Journals.{IsHeld, IsWindow};
 ghost use Rattle.outside.specs.Counts.{NoneFell};
@@ -70,6 +71,8 @@ pub fn copy_under<F: Files, B: Bench>(
     ensures tally { B.told → OfRun (RunIsTallied job.now (B.disk bench.old)) result }
     ensures outcome { B.told → OfRun (RunHasOutcome F.told (F.file files.old job.now.source) job.now (B.disk bench.old)) result }
     ensures cleared { B.told → OfRun (λ answer. IfErr answer (NoneIsLeft job.now (B.disk bench.new))) result }
+    ensures read { F.told → OfRun (TellsFile (F.file files.old job.now.source)) result }
+    ensures caused { OfRun (λ answer. IfErr answer (IsRunFault B.told job.now (B.disk bench.new) (F.counts files.old) (F.counts files.new) (B.meter bench.old) (B.meter bench.new))) result }
     ensures unwritten { B.told → IfErr result (λ fault. IsUnwritten fault → Looked (B.disk bench.old) (B.disk bench.new)) }
     ensures held { B.told → job.now.mode ≡ Mode.Fresh → IsHeld ((B.disk bench.old).reads Dev.Journal) → Looked (B.disk bench.old) (B.disk bench.new) }
     ensures before { IfErr result (λ fault. IsBefore fault → Looked (B.disk bench.old) (B.disk bench.new)) }

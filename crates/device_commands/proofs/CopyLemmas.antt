@@ -346,6 +346,6 @@ unsaid_is_before {A} (Err refusal) (fault.DeviceFault dev) h left = left tt
 unsaid_is_before {A} (Err refusal) (fault.Copy f) h left = cc
 unsaid_is_before {A} (Err refusal) fault.NoMemory h left = left tt
 
-pub unsaid_isnt_done : {A : Type 0} (said : Result CopyJob CopyJobFault) → IsOk said → IfErr said (λ refusal. A)
-unsaid_isnt_done {A} (Ok job) h = tt
-unsaid_isnt_done {A} (Err refusal) h = cc
+pub unsaid_isnt_done : (A : Type 0) (said : Result CopyJob CopyJobFault) → IsOk said → IfErr said (λ refusal. A)
+unsaid_isnt_done A (Ok job) h = tt
+unsaid_isnt_done A (Err refusal) h = cc

@@ -1,11 +1,11 @@
 -- What holds of any words where memory is refused for them.
 use lib.Count.{ones}
 use Rattle.std.proofs.Common.{◌≡◌, ◌+◌, ◌≤◌, ℕ, List, [], Option, Some, None, Result, Ok, Err, refl, arith, inl}
-use Rattle.std.specs.Prelude.{IfErr, length}
+use Rattle.std.specs.Prelude.{IfErr, IfOk, length}
 use Rattle.outside.specs.Counts.{Counts}
 use Rattle.outside.specs.Files.{Tree}
 use Rattle.answer_lines.specs.declared.answer.Answer.TheVariants.{NoMemory}
-use Rattle.bench.specs.Meter.{CostsOn, Meter}
+use Rattle.bench.specs.Meter.{Costs, CostsOn, Meter}
 use Rattle.bench.specs.declared.Dev.TheVariants as dev
 use Rattle.block_map.specs.Maps.{IsMap}
 use Rattle.block_map.specs.declared.maps.BlockMap.{BlockMap}
@@ -18,7 +18,7 @@ use Rattle.base_fields.specs.Numbers.{IsPowerBetween}
 use Rattle.copier.specs.declared.faults.CopyFault.{CopyFault}
 use Rattle.copier_course.specs.declared.jobs.CopyJob.{CopyJob}
 use Rattle.copy_job.proofs.LookLemmas.{marks_looked, narrow_looked, own_looked, since_looked}
-use Rattle.copy_job.proofs.RunLemmas.{each_job, no_cost, nothing_done}
+use Rattle.copy_job.proofs.RunLemmas.{nothing_done}
 use Rattle.copy_job.specs.Devices.{IsBounded as IsCopyBounded}
 use Rattle.copy_job.specs.Said.{copying_said}
 use Rattle.copy_job.specs.declared.faults.CopyJobFault.{CopyJobFault}
@@ -105,6 +105,16 @@ nothing_bounded (Some (Verify map target)) meter =
     record { map = no_map; holds = no_map_holds; costs = nothing_costs (most_work (length target) no_map) meter }
 nothing_bounded (Some (Listed image)) meter = nothing_costs 0 meter
 
+no_cost : (n : ℕ) (meter : Meter) → Costs n meter meter
+no_cost n meter = record {
+  target = omega arith;
+  journal = omega arith;
+  no_less = omega arith;
+  work = omega arith;
+  room = refl;
+  sure = refl;
+}
+
 pub nothing_billed : (command : Option Command) (file : Tree) (meter : Meter) → HasBill command file meter meter
 nothing_billed None file meter = nothing_on dev.Target 0 meter
 nothing_billed (Some (Build request)) file meter = nothing_on dev.Target 0 meter
@@ -113,6 +123,10 @@ nothing_billed (Some (Copy request)) file meter = no_cost _ meter
 nothing_billed (Some (Forget journal)) file meter = nothing_on dev.Journal _ meter
 nothing_billed (Some (Verify map target)) file meter = nothing_on dev.Target _ meter
 nothing_billed (Some (Listed image)) file meter = nothing_on dev.Target 0 meter
+
+each_job : (said : Result CopyJob CopyJobFault) (P : CopyJob → Type 0) → ((job : CopyJob) → P job) → IfOk said P
+each_job (Ok job) P each = each job
+each_job (Err refusal) P each = tt
 
 -- what is said of a copy's devices holds of those to which nothing was written
 pub of_none : (command : Option Command) (file : Tree) (P : CopyJob → Type 0) → ((job : CopyJob) → P job) → of_copy command file P

@@ -1,8 +1,9 @@
 use Rattle.std.specs.Prelude.{IfErr}
 use Rattle.bench.specs.declared.Dev.TheVariants.{Target, Journal}
 use Rattle.copier.specs.Faults.{NoneIsLeft}
-use Rattle.copy_run.specs.Runs.{OpensFor, RunHasOutcome, RunIsDone, RunIsTallied}
-use Rattle.copy_job.proofs.RunLemmas.{early_marks, early_narrow, early_of_said, early_own, early_since, nothing_done, said_marks, said_narrow, said_own, said_since}
+use Rattle.copy_run.specs.Faults.{IsRunFault}
+use Rattle.copy_run.specs.Runs.{OpensFor, RunHasOutcome, RunIsDone, RunIsTallied, TellsFile}
+use Rattle.copy_job.proofs.RunLemmas.{early_marks, early_narrow, early_of_said, early_own, early_since, nothing_done, said_caused, said_marks, said_narrow, said_own, said_read, said_since}
 use Rattle.copy_job.specs.Said.{copying_said}
 use Rattle.copy_job.proofs.copying.copy_target.Goals as goal
 
@@ -77,3 +78,23 @@ returns-clause-keeps g c of_files of_bench =
 pub returns-clause-own : goal.returns-clause-own
 returns-clause-own g c of_files of_bench =
     said_own (copying_said (g.F.Files.file c.args.files.now) c.args.request.now) c.in-Ok.job (g.B.Bench.disk c.args.bench.now) (g.B.Bench.disk c.copy_under.new.bench) (c.in-Ok.ensures.said of_files) (c.copy_under.ensures.own of_bench)
+
+pub returns-in-Err-clause-read : goal.returns-in-Err-clause-read
+returns-in-Err-clause-read g c of_files =
+    early_of_said (λ job. TellsFile (g.F.Files.file c.args.files.now job.source))
+    (copying_said (g.F.Files.file c.args.files.now) c.args.request.now) c.in-Err.fault c.in-Err.ensures.early
+
+pub returns-in-Err-clause-caused : goal.returns-in-Err-clause-caused
+returns-in-Err-clause-caused g c of_files =
+    early_of_said (λ job answer. IfErr answer (IsRunFault g.B.Bench.told job (g.B.Bench.disk c.args.bench.now) (g.F.Files.counts c.args.files.now) (g.F.Files.counts c.job_of_request.new.files) (g.B.Bench.meter c.args.bench.now) (g.B.Bench.meter c.args.bench.now)))
+    (copying_said (g.F.Files.file c.args.files.now) c.args.request.now) c.in-Err.fault c.in-Err.ensures.early
+
+pub returns-clause-read : goal.returns-clause-read
+returns-clause-read g c of_files =
+    said_read (g.F.Files.file c.args.files.now) (g.F.Files.file c.job_of_request.new.files) (copying_said (g.F.Files.file c.args.files.now) c.args.request.now) c.in-Ok.job c.copy_under.result
+    c.job_of_request.ensures.same_files (c.in-Ok.ensures.said of_files) (c.copy_under.ensures.read of_files)
+
+pub returns-clause-caused : goal.returns-clause-caused
+returns-clause-caused g c of_files =
+    said_caused g.B.Bench.told (g.B.Bench.disk c.copy_under.new.bench) (g.F.Files.counts c.args.files.now) (g.F.Files.counts c.job_of_request.new.files) (g.F.Files.counts c.copy_under.new.files) (g.B.Bench.meter c.args.bench.now) (g.B.Bench.meter c.copy_under.new.bench) (copying_said (g.F.Files.file c.args.files.now) c.args.request.now) c.in-Ok.job c.copy_under.result
+    c.job_of_request.ensures.none_fell (c.in-Ok.ensures.said of_files) c.copy_under.ensures.caused

@@ -29,7 +29,8 @@ returns-in-Ok-clause-complete g c = λ told steady printed target journal.
 pub returns-in-Err-clause-complete : goal.returns-in-Err-clause-complete
 returns-in-Err-clause-complete g c = λ told steady printed target journal.
     rw (c.refuse.ensures.answer, c.answer_of_copy.ensures.answer)
-    (copy_completes (g.F.Files.file c.args.files.now) c.args.request _ _ _ _ c.in-Err.fault (c.in-Err.ensures.said told)
+    (copy_completes (g.F.Files.file c.args.files.now) c.args.request (g.F.Files.counts c.args.files.now) (g.F.Files.counts c.copy_target.new.files)
+    (g.B.Bench.meter c.args.bench.now) (g.B.Bench.meter c.copy_target.new.bench) c.in-Err.fault (c.in-Err.ensures.said told)
     (c.in-Err.ensures.read told) c.in-Err.ensures.cause steady target journal)
 
 pub returns-in-Ok-clause-opened : goal.returns-in-Ok-clause-opened
@@ -109,7 +110,7 @@ returns-in-Err-clause-unwritten g c =
 
 pub returns-in-Ok-clause-before : goal.returns-in-Ok-clause-before
 returns-in-Ok-clause-before g c = λ told.
-    unsaid_isnt_done (copying_said (g.F.Files.file c.args.files.now) c.args.request) (c.in-Ok.ensures.said told)
+    unsaid_isnt_done _ (copying_said (g.F.Files.file c.args.files.now) c.args.request) (c.in-Ok.ensures.said told)
 
 pub returns-in-Err-clause-before : goal.returns-in-Err-clause-before
 returns-in-Err-clause-before g c = λ told.
@@ -118,7 +119,7 @@ returns-in-Err-clause-before g c = λ told.
 
 pub returns-in-Ok-clause-stays : goal.returns-in-Ok-clause-stays
 returns-in-Ok-clause-stays g c = λ told.
-    unsaid_isnt_done (copying_said (g.F.Files.file c.args.files.now) c.args.request) (c.in-Ok.ensures.said told)
+    unsaid_isnt_done _ (copying_said (g.F.Files.file c.args.files.now) c.args.request) (c.in-Ok.ensures.said told)
 
 pub returns-in-Err-clause-stays : goal.returns-in-Err-clause-stays
 returns-in-Err-clause-stays g c = λ told.

@@ -1,4 +1,8 @@
 use Rattle.std.proofs.Common.{subst}
+use Rattle.copy_job.specs.declared.requests.CopyRequest.{CopyRequest}
+use Rattle.image_jobs.specs.Asked.{IsSound}
+use Rattle.image_jobs.specs.declared.request.Command.{Command}
+use Rattle.image_jobs.specs.declared.request.Command.TheVariants.{Copy}
 use Rattle.job_words.specs.Ranges.{IsInRange}
 use Rattle.image_jobs.proofs.request.asked.Goals as goal
 

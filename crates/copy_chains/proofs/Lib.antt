@@ -1,0 +1,2 @@
+-- lemmas
+mod CopyLemmas
