@@ -117,7 +117,7 @@ fn leave(alloc: Global, devices: &mut Option<Devices>, kept: &Kept) -> Result<St
 }
 
 /// Which of so many pending writes are kept.
-fn keep_of(alloc: Global, kept: &Kept, pending: usize) -> Result<Vec<bool>> {
+pub fn keep_of(alloc: Global, kept: &Kept, pending: usize) -> Result<Vec<bool>> {
     let mut keep = Vec::new(alloc);
     for number in 0..pending {
         keep.push(match kept {

@@ -5,6 +5,6 @@ mod bench_steps;
 mod device_steps;
 mod devices;
 
-pub use bench_steps::{BenchStep, Kept};
+pub use bench_steps::{BenchStep, Kept, keep_of};
 pub use device_steps::DeviceStep;
 pub use devices::{Devices, device_of};

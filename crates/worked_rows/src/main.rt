@@ -7,6 +7,7 @@ mod playing;
 mod run_devices;
 mod run_steps;
 mod steps;
+mod sweeps;
 mod world;
 
 use std::io::{self, BufReader, BufWriter, Write};

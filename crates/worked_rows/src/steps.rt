@@ -1,5 +1,6 @@
 //! The steps of a scenario.
 use crate::run_steps::RunStep;
+use crate::sweeps::SweepStep;
 use crate::world::World;
 use anyhow::{Result, bail};
 use scenario_answers::AnswerStep;
@@ -52,6 +53,8 @@ pub enum Step {
     Journal(JournalStep),
     /// The copier on the bench.
     Copies(CopyStep),
+    /// Many copies, of which each is stopped or has a call that fails.
+    Sweep(SweepStep),
 }
 
 impl Step {
@@ -91,6 +94,7 @@ impl Step {
             Step::Bench(step) => step.play(&world.setting, &mut world.devices),
             Step::Journal(step) => step.play(alloc, &mut world.devices, &mut world.job),
             Step::Copies(step) => step.play(&mut world.setting, &mut world.devices),
+            Step::Sweep(step) => step.play(&mut world.setting),
         }
     }
 }
@@ -149,6 +153,9 @@ fn read_value(alloc: Global, verb: &str, words: &mut Arguments) -> Result<Option
     }
     if let Some(step) = CopyStep::read(alloc, verb, words)? {
         return Ok(Some(Step::Copies(step)));
+    }
+    if let Some(step) = SweepStep::read(verb, words)? {
+        return Ok(Some(Step::Sweep(step)));
     }
     Ok(None)
 }
