@@ -8,6 +8,7 @@ use Rattle.outside.specs.declared.printer.PrintErr.{PrintErr}
 use Rattle.answer_lines.specs.Kind.{Kind, Finished, LineFailed, Counted, Refused, kind_of}
 use Rattle.answer_lines.specs.declared.answer.Answer.{Answer}
 use Rattle.answer_lines.specs.declared.answer.Answer.TheVariants as answer
+use Rattle.answer_lines.specs.declared.answer.Report.{Report}
 use Rattle.answer_lines.specs.declared.answer.Report.TheVariants as report
 use Rattle.bench.specs.Meter.{Meter}
 use Rattle.bench.specs.declared.Dev.TheVariants as dev
@@ -304,10 +305,9 @@ done_completes said request tally (Ok printed) a before now is reports steady h 
 done_completes said request tally (Err failed) a before now is reports steady h =
     absurd (steady (subst (λ (x : Answer). Reports (report.Copied tally.units tally.written tally.kept) before now x) is reports))
 
-pub done_is_written : (tally : Tally) (answered : Result Unit PrintErr) (a : Answer)
-    → a ≡ reported_of answered (report.Copied tally.units tally.written tally.kept) → IsUnwritten a → ⊥
-done_is_written tally (Ok printed) a is h = subst (λ (x : Answer). IsUnwritten x) is h
-done_is_written tally (Err failed) a is h = subst (λ (x : Answer). IsUnwritten x) is h
+pub report_is_written : (said : Report) (answered : Result Unit PrintErr) (a : Answer) → a ≡ reported_of answered said → IsUnwritten a → ⊥
+report_is_written said (Ok printed) a is h = subst (λ (x : Answer). IsUnwritten x) is h
+report_is_written said (Err failed) a is h = subst (λ (x : Answer). IsUnwritten x) is h
 
 -- ---- what is left as it was
 

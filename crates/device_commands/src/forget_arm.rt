@@ -11,6 +11,7 @@ ghost use Rattle.bench.specs.declared.Dev.{Dev};
 ghost use Rattle.job_stages.specs.Printing.{Prints};
 ghost use Rattle.journal_format.specs.Journals.{IsHeld};
 ghost use Rattle.job_answers.specs.Printed.{IsRefusal, Reports, line_of};
+ghost use Rattle.device_commands.specs.CopyArm.{IsUnwritten};
 ghost use Rattle.device_commands.specs.Devices.{AreAttached, named};
 ghost use Rattle.device_commands.specs.ForgetArm.{ForgetCause, Forgets, ForgettingKeepsSince};
 
@@ -25,6 +26,7 @@ use outside::{PrintErr, Printer};
 pub fn run_forget<B: Bench, P: Printer>(journal: Name, bench: &mut B, out: &mut P) -> Answer
     requires { HasNoOther (B.meter bench.old) Dev.Journal journal }
     ensures cause { ForgetCause (P.faults out.old) (P.faults out.new) (B.meter bench.old) (B.meter bench.new) result }
+    ensures answered { ¬ (IsUnwritten result) }
     ensures forgets { B.told → Forgets (B.disk bench.old) (B.disk bench.new) result }
     ensures since { B.told → ForgettingKeepsSince (B.disk bench.old) (B.disk bench.new) }
     ensures unwritten { B.told → ¬ IsHeld ((B.disk bench.old).reads Dev.Journal) → Looked (B.disk bench.old) (B.disk bench.new) }
@@ -44,6 +46,7 @@ pub fn run_forget<B: Bench, P: Printer>(journal: Name, bench: &mut B, out: &mut 
 // Prints the line of a journal that is forgotten, and answers so.
 fn report_forgotten<P: Printer>(held: bool, out: &mut P) -> Answer
     ensures answer { Reports (report.Forgotten held) (P.faults out.old) (P.faults out.new) result }
+    ensures answered { ¬ (IsUnwritten result) }
     ensures prints { Prints (line_of result) (P.lines out.old) (P.lines out.new) (P.faults out.old) (P.faults out.new) }
     ensures none_fell { P.faults out.old ≤ P.faults out.new }
 {

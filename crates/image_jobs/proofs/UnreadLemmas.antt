@@ -1,6 +1,6 @@
 -- What holds of any words where memory is refused for them.
 use lib.Count.{ones}
-use Rattle.std.proofs.Common.{◌≡◌, ◌+◌, ◌≤◌, ℕ, List, [], Option, Some, None, Result, Ok, Err, refl, arith, inl}
+use Rattle.std.proofs.Common.{◌≡◌, ◌+◌, ◌≤◌, ℕ, List, [], Option, Some, None, Result, Ok, Err, refl, arith, inl, subst, sym}
 use Rattle.std.specs.Prelude.{IfErr, IfOk, length}
 use Rattle.outside.specs.Counts.{Counts}
 use Rattle.outside.specs.Files.{Tree}
@@ -9,10 +9,11 @@ use Rattle.bench.specs.Meter.{Costs, CostsOn, Meter}
 use Rattle.bench.specs.declared.Dev.TheVariants as dev
 use Rattle.block_map.specs.Maps.{IsMap}
 use Rattle.block_map.specs.declared.maps.BlockMap.{BlockMap}
+use Rattle.job_words.specs.declared.jobs.WordFault.{WordFault}
 use Rattle.list_job.specs.declared.fault.ListFault.TheVariants as list
 use Rattle.verify_job.specs.Devices.{IsBounded, most_work}
 use Rattle.bench.proofs.DiskLemmas.{looked_keeps}
-use Rattle.bench.specs.Disk.{Disk, Looked}
+use Rattle.bench.specs.Disk.{Disk, Looked, StillLeaves}
 use Rattle.bench.specs.declared.Dev.{Dev}
 use Rattle.base_fields.specs.Numbers.{IsPowerBetween}
 use Rattle.copier.specs.declared.faults.CopyFault.{CopyFault}
@@ -31,6 +32,7 @@ use Rattle.device_commands.specs.CopyArm.{Tells}
 use Rattle.verify_job.specs.declared.faults.VerifyJobFault.TheVariants as verify
 use Rattle.image_jobs.specs.OnDevices.{HasBill, HasBound, HasForgotten, IsAsBefore, KeepsItsJournal, KeepsMarks, KeepsSince, LeavesDevices}
 use Rattle.image_jobs.specs.OnDevices.{LeavesUnsaid, StaysNarrow, WritesNothing, of_copy}
+use Rattle.image_jobs.specs.Asked.{AreCopySizes, IsSound}
 use Rattle.image_jobs.specs.Run.{HasCause}
 use Rattle.image_jobs.specs.declared.request.Command.{Command}
 use Rattle.image_jobs.specs.declared.request.Command.TheVariants.{Build, Map, Copy, Forget, Verify, List as Listed}
@@ -204,3 +206,15 @@ none_unsaid (Some (Copy request)) file {a} {b} same = at (copying_said file requ
 none_unsaid (Some (Forget journal)) file {a} {b} same = tt
 none_unsaid (Some (Verify map target)) file {a} {b} same = tt
 none_unsaid (Some (Listed image)) file {a} {b} same = tt
+
+-- a copy of which the files say no job
+pub unsaid_stays : (said : Result CopyJob CopyJobFault) (a b : Disk) → IfErr said (λ refusal. Looked a b)
+    → IfErr said (λ refusal. (each : Dev) → StillLeaves each a b) → IfErr said (λ refusal. IsAsBefore a b)
+unsaid_stays (Ok job) a b looked stays = tt
+unsaid_stays (Err refusal) a b looked stays = record { looked = looked; stays = stays }
+
+-- the sizes of a copy that words ask for
+pub copied_sound : (r : Result Command WordFault) (request : CopyRequest) → IfOk r (λ command. command ≡ Copy request)
+    → AreCopySizes request → IfOk r IsSound
+copied_sound (Ok command) request is sizes = subst IsSound (sym is) sizes
+copied_sound (Err fault) request is sizes = tt

@@ -1,13 +1,14 @@
 use Rattle.std.proofs.Common.{rules}
 use Rattle.std.specs.Prelude.{IfErr}
+use Rattle.answer_lines.specs.declared.answer.Report.TheVariants as report
 use Rattle.bench.specs.declared.Dev.TheVariants.{Journal, Target}
 use Rattle.copier.specs.Faults.{NoneIsLeft}
 use Rattle.copy_job.specs.Said.{copying_said}
 use Rattle.copy_run.specs.Faults.{IsRunFault}
 use Rattle.copy_run.specs.Runs.{OpensFor, RunHasOutcome, RunIsDone, RunIsTallied}
 use Rattle.job_answers.proofs.LineLemmas.{answer_line}
-use Rattle.device_commands.proofs.CopyLemmas.{copy_completes, copy_refused, done_completes, done_is_written, done_says, done_tells}
-use Rattle.device_commands.proofs.CopyLemmas.{fault_unwritten, refused_tells, unsaid_is_before, unsaid_isnt_done}
+use Rattle.device_commands.proofs.CopyLemmas.{copy_completes, copy_refused, done_completes, done_says, done_tells}
+use Rattle.device_commands.proofs.CopyLemmas.{fault_unwritten, refused_tells, report_is_written, unsaid_is_before, unsaid_isnt_done}
 use Rattle.device_commands.proofs.copy_arm.run_copy.Goals as goal
 
 pub returns-in-Ok-clause-answers : goal.returns-in-Ok-clause-answers
@@ -101,7 +102,7 @@ returns-in-Err-clause-caused g c = λ told.
 
 pub returns-in-Ok-clause-unwritten : goal.returns-in-Ok-clause-unwritten
 returns-in-Ok-clause-unwritten g c = λ known unwritten.
-    absurd (done_is_written c.in-Ok.tally c.report_copied.ensures.is.0 c.report_copied.result c.report_copied.ensures.is.1 unwritten)
+    absurd (report_is_written (report.Copied c.in-Ok.tally.units c.in-Ok.tally.written c.in-Ok.tally.kept) c.report_copied.ensures.is.0 c.report_copied.result c.report_copied.ensures.is.1 unwritten)
 
 pub returns-in-Err-clause-unwritten : goal.returns-in-Err-clause-unwritten
 returns-in-Err-clause-unwritten g c =

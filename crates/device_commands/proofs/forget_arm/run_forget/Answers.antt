@@ -9,3 +9,6 @@ returns-in-Ok-clause-attached g c =
       target = c.forget_journal.ensures.other;
       journal = subst (λ (name : List ℕ). AttachedOr Journal name (g.B.Bench.meter c.args.bench.now) (g.B.Bench.meter c.forget_journal.new.bench)) c.text.ensures c.forget_journal.ensures.attached;
     }
+
+pub returns-clause-answered : goal.returns-clause-answered
+returns-clause-answered g c = rw c.refuse.ensures.answer (λ h. h)
