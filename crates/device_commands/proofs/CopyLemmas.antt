@@ -1,6 +1,6 @@
 -- What the answer of `copy` says, by the fault of the work.
-use Rattle.std.proofs.Common.{◌≡◌, ◌∙◌, ℕ, Bool, cond, true, false, List, Option, Some, None, Result, Ok, Err, refl, ap, subst, sym, inl, inr}
-use Rattle.std.specs.Prelude.{◌⊎◌, IfErr, IfOk, IsOk, IsOkAnd, not}
+use Rattle.std.proofs.Common.{◌≡◌, ◌∙◌, ℕ, Bool, true, false, List, Option, Some, None, Result, Ok, Err, refl, ap, subst, sym, inl, inr}
+use Rattle.std.specs.Prelude.{IfErr, IfOk, IsOk, not}
 use Rattle.base_fields.specs.Results.{◌>>=◌, or_else, refused_by, when}
 use Rattle.outside.specs.Counts.{Counts, Rose}
 use Rattle.outside.specs.Files.{Tree}
@@ -22,14 +22,14 @@ use Rattle.copy_job.specs.Said.{copying_said, is_compressed, job_in}
 use Rattle.copy_job.specs.declared.faults.CopyJobFault.{CopyJobFault}
 use Rattle.copy_job.specs.declared.faults.CopyJobFault.TheVariants as fault
 use Rattle.copy_job.specs.declared.requests.CopyRequest.{CopyRequest}
-use Rattle.copy_run.specs.Runs.{OpensFor, TellsFile}
+use Rattle.copy_run.specs.Runs.{TellsFile}
 use Rattle.copy_run.specs.declared.running.Tally.{Tally}
 use Rattle.map_source.specs.Said.{map_said}
 use Rattle.map_source.specs.declared.faults.SourceFault.{SourceFault}
 use Rattle.map_source.specs.declared.faults.SourceFault.TheVariants as source
 use Rattle.map_source.specs.declared.sources.MapSource.{MapSource}
 use Rattle.job_answers.specs.Printed.{Reports, reported_of}
-use Rattle.device_commands.specs.CopyArm.{IsCopyRefusal, IsUnwritten, Tells, copy_answer, copy_expects, copy_says, copy_wanted, run_answer}
+use Rattle.device_commands.specs.CopyArm.{IsUnwritten, Tells, copy_answer, copy_expects, copy_says, copy_wanted, run_answer}
 use Rattle.device_commands.specs.VerifyArm.{source_answer}
 
 -- ---- the run that an answer tells

@@ -1,35 +1,26 @@
 -- What the answer of `verify` says.
-use Rattle.std.proofs.Common.{◌≡◌, ◌∙◌, ℕ, List, [], ◌∷◌, Option, Some, None, Result, Ok, Err, refl, ap, subst, sym, inl, inr}
-use Rattle.std.specs.Prelude.{◌⊎◌, IsOk, IsOkAnd}
+use Rattle.std.proofs.Common.{◌≡◌, ℕ, List, Result, Ok, Err, refl, ap}
+use Rattle.std.specs.Prelude.{IsOk, IsOkAnd}
 use Rattle.base_fields.specs.Results.{refused_by}
 use Rattle.outside.specs.Counts.{Counts, Rose}
 use Rattle.outside.specs.Files.{Tree}
 use Rattle.answer_lines.specs.Kind.{Kind, Finished, LineFailed, Counted, Refused, kind_of}
-use Rattle.answer_lines.specs.Lines.{verified_text}
 use Rattle.answer_lines.specs.declared.answer.Answer.{Answer}
 use Rattle.answer_lines.specs.declared.answer.Answer.TheVariants.{NoMemory}
-use Rattle.answer_lines.specs.declared.answer.Report.{Report}
 use Rattle.answer_lines.specs.declared.answer.Report.TheVariants as report
-use Rattle.bench.specs.Meter.{Attaches, Both, Meter, SameNames, of_device}
-use Rattle.bench.specs.declared.Dev.TheVariants.{Journal, Target}
-use Rattle.block_map.specs.declared.maps.BlockMap.{BlockMap}
+use Rattle.bench.specs.Meter.{Meter}
 use Rattle.map_source.specs.Said.{map_said}
 use Rattle.map_source.specs.declared.faults.SourceFault.{SourceFault}
 use Rattle.map_source.specs.declared.faults.SourceFault.TheVariants as source
 use Rattle.map_source.specs.declared.sources.MapSource.{MapSource}
-use Rattle.verifier.specs.Checks.{IsVerified, digests_among}
+use Rattle.verifier.specs.Checks.{digests_among}
 use Rattle.verify_job.specs.Answers.{MapAnswers, Verifies}
-use Rattle.verify_job.specs.Devices.{IsAttachedOr}
 use Rattle.verify_job.specs.Faults.{IsShown}
 use Rattle.verify_job.specs.declared.faults.VerifyJobFault.{VerifyJobFault}
 use Rattle.verify_job.specs.declared.faults.VerifyJobFault.TheVariants as fault
 use Rattle.job_answers.proofs.SaidLemmas.{ok_and}
-use Rattle.device_commands.specs.Devices.{named}
-use Rattle.copy_job.specs.Devices.{IsAttachedAs, IsNamedAsBefore}
-use Rattle.device_commands.specs.Devices.{AreAttached}
-use Rattle.job_answers.specs.Printed.{IsRefusal, Reports, reported_by}
-use Rattle.device_commands.specs.VerifyArm.{Compares, VerifyAnswers, VerifyCause, VerifyCompletes, compared_by, compared_with, source_answer}
-use Rattle.device_commands.specs.VerifyArm.{source_wanted, verified_lines, verify_answer, verify_expects, verify_lines, verify_says}
+use Rattle.device_commands.specs.VerifyArm.{Compares, VerifyAnswers, VerifyCompletes, compared_by, compared_with, source_answer}
+use Rattle.device_commands.specs.VerifyArm.{source_wanted, verify_answer, verify_expects, verify_says}
 
 -- ---- a refusal
 

@@ -1,7 +1,7 @@
 -- The devices of a command: the names that they may have, and those that they have afterwards.
-use Rattle.std.specs.Prelude.{◌≡◌, ◌⊎◌, ℕ, List, Option, Some, None}
+use Rattle.std.specs.Prelude.{◌⊎◌, ℕ, List, Option, Some, None}
 use Rattle.std.specs.Option.{ForSome}
-use Rattle.bench.specs.Meter.{HasNoOther, Meter, of_device}
+use Rattle.bench.specs.Meter.{HasNoOther, Meter}
 use Rattle.bench.specs.declared.Dev.{Dev}
 use Rattle.bench.specs.declared.Dev.TheVariants.{Journal, Target}
 use Rattle.copy_job.specs.Devices.{IsAttachedAs, IsNamedAsBefore}

@@ -1,24 +1,17 @@
 -- What the answer of `map` says.
-use Rattle.std.proofs.Common.{◌≡◌, ◌∙◌, ℕ, true, List, [], ◌∷◌, Option, Result, Ok, Err, refl, ap, subst, sym, inl, inr}
-use Rattle.std.specs.Prelude.{◌⊎◌, IsOkAnd, OnErr, OnOk}
-use Rattle.base_fields.specs.Results.{◌>>=◌, refused_by}
-use Rattle.outside.specs.Counts.{Counts, Rose}
+use Rattle.std.proofs.Common.{◌≡◌, ℕ, true, List, Result, Ok, Err, refl, subst, sym}
+use Rattle.std.specs.Prelude.{IsOkAnd}
+use Rattle.outside.specs.Counts.{Counts}
 use Rattle.outside.specs.Files.{Tree}
 use Rattle.outside.specs.declared.files.FileErr.TheVariants as measure
-use Rattle.outside.specs.Printer.{added}
-use Rattle.outside.specs.declared.printer.PrintErr.{PrintErr}
-use Rattle.answer_lines.specs.Answer.{error_text}
 use Rattle.answer_lines.specs.Kind.{Kind, Finished, LineFailed, Counted, Refused, kind_of}
-use Rattle.answer_lines.specs.Lines.{mapped_text}
 use Rattle.answer_lines.specs.declared.answer.Answer.{Answer}
-use Rattle.answer_lines.specs.declared.answer.Answer.TheVariants.{NoMemory}
 use Rattle.answer_lines.specs.declared.answer.Report.{Report}
 use Rattle.answer_lines.specs.declared.answer.Report.TheVariants as report
 use Rattle.image_graph.specs.declared.images.Graph.{Graph}
 use Rattle.image_plan.specs.declared.faults.PlanFault.TheVariants as plan
-use Rattle.job_stages.specs.Printing.{Prints}
 use Rattle.job_stages.specs.Stages.{Refuses}
-use Rattle.map_job.specs.Faults.{IsShown as IsMappingShown, is_counted as is_mapping_counted}
+use Rattle.map_job.specs.Faults.{is_counted as is_mapping_counted}
 use Rattle.map_job.specs.Mapped.{IsMapped}
 use Rattle.map_job.specs.Said.{Image, mapping_said}
 use Rattle.map_job.specs.declared.faults.MappingFault.{MappingFault}
@@ -31,11 +24,9 @@ use Rattle.image_plan.specs.Faults.{is_memory}
 use Rattle.job_answers.proofs.SaidLemmas.{refuses_as}
 use Rattle.job_answers.specs.Printed.{IsCopied, is_counted}
 use Rattle.image_jobs.specs.Answering.{place_answer}
-use Rattle.image_jobs.specs.BuildArm.{IsShown}
-use Rattle.image_jobs.specs.MapArm.{HasMapped, IsMapShown, MapAnswers, MapCause, MapCompletes, Maps, image_wanted, is_mapped}
+use Rattle.image_jobs.specs.MapArm.{HasMapped, IsMapShown, MapCause, Maps, image_wanted}
 use Rattle.image_jobs.specs.MapArm.{map_cause_by, mapped_by, mapping_answer}
-use Rattle.job_answers.specs.Printed.{HasError, IsRefusal, Reports, reported_by, reported_of}
-use Rattle.job_answers.specs.Said.{IsExpected, Says, expected_by, says_by}
+use Rattle.job_answers.specs.Printed.{HasError, IsRefusal, Reports, reported_by}
 use Rattle.image_jobs.specs.declared.request.MapRequest.{MapRequest}
 
 -- ---- the answer of each fault

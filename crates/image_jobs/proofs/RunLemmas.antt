@@ -1,7 +1,5 @@
 -- What an answer says of the counts, of the files and of the lines.
 use Rattle.std.proofs.Common.{◌≡◌, ◌∙◌, ℕ, List, [], ◌∷◌, Result, Ok, Err, refl, ap, subst, sym, inl, inr}
-use Rattle.std.specs.Prelude.{◌≢◌}
-use Rattle.base_fields.specs.Results.{◌>>=◌, refused_by}
 use Rattle.outside.specs.Counts.{Counts}
 use Rattle.outside.specs.Files.{Tree}
 use Rattle.outside.specs.declared.files.ComposeFault.TheVariants as compose
@@ -14,27 +12,17 @@ use Rattle.build_job.specs.Faults.{IsShown as IsBuildShown}
 use Rattle.build_job.specs.Said.{sizes_of}
 use Rattle.build_job.specs.declared.faults.BuildFault.{BuildFault}
 use Rattle.build_job.specs.declared.faults.BuildFault.TheVariants as build
-use Rattle.conf_keys.specs.Within.{IsWithin}
-use Rattle.conf_keys.specs.declared.conf.Conf.{Conf}
-use Rattle.conf_sections.specs.declared.fault.ConfFault.{ConfFault}
-use Rattle.conf_sections.specs.declared.fault.ConfFault.TheVariants as conf
-use Rattle.conf_sections.specs.Reading.{Refuses as ConfRefuses}
 use Rattle.image_graph.specs.declared.images.Graph.{Graph}
 use Rattle.image_graph.specs.IsGraph.{IsGraph}
-use Rattle.image_names.specs.declared.fault.GraphFault.{GraphFault}
-use Rattle.image_names.specs.declared.fault.GraphFault.TheVariants as graph
 use Rattle.image_plan.specs.declared.faults.PlanFault.TheVariants as plan
-use Rattle.job_stages.specs.Stages.{Refuses}
 use Rattle.placement_rules.specs.declared.faults.PlaceFault.{PlaceFault}
 use Rattle.placement_rules.specs.declared.faults.PlaceFault.TheVariants as place
 use Rattle.image_jobs.proofs.LineLemmas.{report_is_done}
-use Rattle.job_answers.specs.Printed.{IsCopied, is_counted}
-use Rattle.image_jobs.specs.Answering.{build_answer, conf_answer, graph_answer, place_answer}
-use Rattle.image_jobs.specs.Build.{with_paths}
+use Rattle.job_answers.specs.Printed.{IsCopied}
+use Rattle.image_jobs.specs.Answering.{build_answer, place_answer}
 use Rattle.image_jobs.specs.BuildArm.{BuildChanges, IsShown, build_lines, done_lines, lines_by}
 use Rattle.job_answers.specs.Printed.{HasError, IsRefusal, Reports, reported_by}
 use Rattle.image_jobs.specs.Printed.{report_lines}
-use Rattle.image_jobs.specs.declared.request.Request.{Request}
 
 -- ---- the causes of a fault of the building
 

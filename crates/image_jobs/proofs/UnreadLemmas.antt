@@ -1,7 +1,7 @@
 -- What holds of any words where memory is refused for them.
 use lib.Count.{ones}
-use Rattle.std.proofs.Common.{◌≡◌, ◌+◌, ◌≤◌, ℕ, List, [], Option, Some, None, Result, Ok, Err, refl, arith, inl, subst, sym}
-use Rattle.std.specs.Prelude.{IfErr, IfOk, length}
+use Rattle.std.proofs.Common.{◌≡◌, ℕ, [], Option, Some, None, Result, Ok, Err, refl, arith, inl, inr, subst, sym}
+use Rattle.std.specs.Prelude.{◌⊎◌, IfErr, IfOk, length}
 use Rattle.outside.specs.Counts.{Counts}
 use Rattle.outside.specs.Files.{Tree}
 use Rattle.answer_lines.specs.declared.answer.Answer.TheVariants.{NoMemory}
@@ -11,7 +11,7 @@ use Rattle.block_map.specs.Maps.{IsMap}
 use Rattle.block_map.specs.declared.maps.BlockMap.{BlockMap}
 use Rattle.job_words.specs.declared.jobs.WordFault.{WordFault}
 use Rattle.list_job.specs.declared.fault.ListFault.TheVariants as list
-use Rattle.verify_job.specs.Devices.{IsBounded, most_work}
+use Rattle.verify_job.specs.Devices.{most_work}
 use Rattle.bench.proofs.DiskLemmas.{looked_keeps}
 use Rattle.bench.specs.Disk.{Disk, Looked, StillLeaves}
 use Rattle.bench.specs.declared.Dev.{Dev}
@@ -28,7 +28,9 @@ use Rattle.copy_job.specs.declared.requests.CopyRequest.{CopyRequest}
 use Rattle.copy_run.specs.Runs.{RunIsNarrow, RunKeepsMarks, RunKeepsSince}
 use Rattle.copy_run.specs.declared.running.Tally.{Tally}
 use Rattle.copy_stages.specs.Stages.{KeepsOwn}
-use Rattle.device_commands.specs.CopyArm.{Tells}
+use Rattle.device_commands.specs.CopyArm.{IsUnwritten, Tells}
+use Rattle.journal_format.specs.Journals.{IsHeld}
+use Rattle.answer_lines.specs.declared.answer.Answer.{Answer}
 use Rattle.verify_job.specs.declared.faults.VerifyJobFault.TheVariants as verify
 use Rattle.image_jobs.specs.OnDevices.{HasBill, HasBound, HasForgotten, IsAsBefore, KeepsItsJournal, KeepsMarks, KeepsSince, LeavesDevices}
 use Rattle.image_jobs.specs.OnDevices.{LeavesUnsaid, StaysNarrow, WritesNothing, of_copy}
@@ -218,3 +220,9 @@ pub copied_sound : (r : Result Command WordFault) (request : CopyRequest) → If
     → AreCopySizes request → IfOk r IsSound
 copied_sound (Ok command) request is sizes = subst IsSound (sym is) sizes
 copied_sound (Err fault) request is sizes = tt
+
+-- a forgetting that is answered by no refusal wrote nothing where the journal wasn't held
+pub forgotten_writes : (a : Answer) (old new : Disk) → ¬ (IsUnwritten a) → (¬ (IsHeld (old.reads dev.Journal)) → Looked old new)
+    → (IsUnwritten a ⊎ ¬ IsHeld (old.reads dev.Journal)) → Looked old new
+forgotten_writes a old new answered unheld (inl unwritten) = absurd (answered unwritten)
+forgotten_writes a old new answered unheld (inr free) = unheld free

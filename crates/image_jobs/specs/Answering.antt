@@ -1,11 +1,10 @@
 -- The answer that each fault of a stage of a build stands for. A fault names an image or a source by its number, an answer
 -- by its file.
-use Rattle.std.specs.Prelude.{◌≡◌, ℕ, ◌⊎◌, Bool, true, false, List, [], slice_get, option_and_then, option_map, unwrap_or}
+use Rattle.std.specs.Prelude.{ℕ, List, [], slice_get, option_and_then, option_map, unwrap_or}
 use Rattle.outside.specs.declared.files.ComposeFault.{ComposeFault}
 use Rattle.outside.specs.declared.files.ComposeFault.TheVariants as compose
 use Rattle.outside.specs.declared.files.FileErr.{FileErr}
 use Rattle.outside.specs.declared.files.FileErr.TheVariants as measure
-use Rattle.answer_lines.specs.Kind.{Kind, Finished, LineFailed, Counted, Refused, kind_of}
 use Rattle.answer_lines.specs.declared.answer.Answer.{Answer}
 use Rattle.answer_lines.specs.declared.answer.Answer.TheVariants as answer
 use Rattle.conf_sections.specs.declared.fault.ConfFault.{ConfFault}

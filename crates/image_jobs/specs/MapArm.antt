@@ -1,12 +1,10 @@
 -- What the answer of `map` says of the image, of the counts, of the map's file and of the lines.
-use Rattle.std.specs.Prelude.{◌≡◌, ◌≢◌, ◌⊎◌, ℕ, List, [], ◌∷◌, Result, Ok, Err, IsOkAnd}
+use Rattle.std.specs.Prelude.{◌≡◌, ◌≢◌, ◌⊎◌, ℕ, List, Result, Ok, Err, IsOkAnd}
 use Rattle.base_fields.specs.Results.{◌>>=◌, refused_by}
 use Rattle.base_fields.specs.declared.names.Pair.{Pair}
 use Rattle.outside.specs.Counts.{Counts, Rose}
 use Rattle.outside.specs.Files.{Tree}
-use Rattle.answer_lines.specs.Answer.{error_text}
 use Rattle.answer_lines.specs.Kind.{Kind, Finished, LineFailed, Counted, Refused, kind_of}
-use Rattle.answer_lines.specs.Lines.{mapped_text}
 use Rattle.answer_lines.specs.declared.answer.Answer.{Answer}
 use Rattle.answer_lines.specs.declared.answer.Answer.TheVariants as answer
 use Rattle.answer_lines.specs.declared.answer.Report.{Report}

@@ -1,6 +1,6 @@
 -- What a run says of the two devices, by cases on the command that its words ask for: old is what they were, new what they
 -- are. Of a copy everything is said of the job that the files say, and nothing where they say none: then all is as before.
-use Rattle.std.specs.Prelude.{◌≡◌, ◌⊎◌, ℕ, ◌+◌, List, length, Option, Some, None, IfErr, IfOk}
+use Rattle.std.specs.Prelude.{◌≡◌, ◌⊎◌, ◌+◌, length, Option, Some, None, IfErr, IfOk}
 use Rattle.answer_lines.specs.declared.answer.Answer.{Answer}
 use Rattle.bench.specs.Disk.{Disk, Looked, StillLeaves}
 use Rattle.bench.specs.Meter.{Costs, CostsOn, Meter}

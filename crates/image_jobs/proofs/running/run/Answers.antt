@@ -1,4 +1,4 @@
-use Rattle.std.proofs.Common.{inl, inr}
+use Rattle.std.proofs.Common.{◌≡◌, Option, Some, rules, subst, sym}
 use Rattle.std.specs.Prelude.{IfErr, map, string_bytes}
 use Rattle.bench.specs.declared.Dev.TheVariants.{Journal, Target}
 use Rattle.copier.specs.Faults.{NoneIsLeft}
@@ -7,8 +7,11 @@ use Rattle.copy_job.specs.Said.{copying_said}
 use Rattle.copy_run.specs.Faults.{IsRunFault}
 use Rattle.copy_run.specs.Runs.{OpensFor, RunHasOutcome, RunIsDone, RunIsTallied}
 use Rattle.image_jobs.specs.Asked.{asked}
+use Rattle.image_jobs.specs.OnDevices.{KeepsSince, LeavesUnsaid, WritesNothing}
+use Rattle.image_jobs.specs.declared.request.Command.{Command}
+use Rattle.image_jobs.specs.declared.request.Command.TheVariants.{Copy, Forget}
 use Rattle.image_jobs.proofs.UnreadLemmas.{memory_caused, none_marks, none_narrow, none_own, none_since, none_told, none_unsaid}
-use Rattle.image_jobs.proofs.UnreadLemmas.{nothing_bounded, unsaid_stays}
+use Rattle.image_jobs.proofs.UnreadLemmas.{forgotten_writes, nothing_bounded, unsaid_stays}
 use Rattle.image_jobs.proofs.running.run.Goals as goal
 
 pub returns-in-Err-NoMemory-clause-cause : goal.returns-in-Err-NoMemory-clause-cause
@@ -60,15 +63,25 @@ returns-in-Err-NoMemory-clause-unsaid g c = λ told. none_unsaid (asked (map str
 
 pub returns-in-Copy-clause-unsaid : goal.returns-in-Copy-clause-unsaid
 returns-in-Copy-clause-unsaid g c = λ told.
-    unsaid_stays (copying_said (g.F.Files.file c.args.files.now) c.in-Copy.request) (g.B.Bench.disk c.args.bench.now) (g.B.Bench.disk c.run_copy.new.bench)
-    (c.run_copy.ensures.before told) (c.run_copy.ensures.stays told)
+    let file = g.F.Files.file c.args.files.now in
+    let old = g.B.Bench.disk c.args.bench.now in
+    let new = g.B.Bench.disk c.run_copy.new.bench in
+    let is : asked (map string_bytes c.args.words.now.items) ≡ Some (Copy c.in-Copy.request) = search rules in
+    subst (λ (command : Option Command). LeavesUnsaid command file old new) (sym is)
+    (unsaid_stays (copying_said file c.in-Copy.request) old new (c.run_copy.ensures.before told) (c.run_copy.ensures.stays told))
 
 pub returns-in-Forget-clause-since : goal.returns-in-Forget-clause-since
-returns-in-Forget-clause-since g c = λ told known. c.run_forget.ensures.since known
+returns-in-Forget-clause-since g c = λ told known.
+    let file = g.F.Files.file c.args.files.now in
+    let old = g.B.Bench.disk c.args.bench.now in
+    let new = g.B.Bench.disk c.run_forget.new.bench in
+    let is : asked (map string_bytes c.args.words.now.items) ≡ Some (Forget c.in-Forget.journal) = search rules in
+    subst (λ (command : Option Command). KeepsSince command g.F.Files.told file old new) (sym is) (c.run_forget.ensures.since known)
 
 pub returns-in-Forget-clause-unwritten : goal.returns-in-Forget-clause-unwritten
-returns-in-Forget-clause-unwritten g c = λ known why.
-    elim why [
-      | inl unwritten ↦ absurd (c.run_forget.ensures.answered unwritten)
-      | inr free ↦ c.run_forget.ensures.unwritten known free
-    ]
+returns-in-Forget-clause-unwritten g c = λ known.
+    let old = g.B.Bench.disk c.args.bench.now in
+    let new = g.B.Bench.disk c.run_forget.new.bench in
+    let is : asked (map string_bytes c.args.words.now.items) ≡ Some (Forget c.in-Forget.journal) = search rules in
+    subst (λ (command : Option Command). WritesNothing command old new c.run_forget.result) (sym is)
+    (forgotten_writes c.run_forget.result old new c.run_forget.ensures.answered (c.run_forget.ensures.unwritten known))
