@@ -30,7 +30,7 @@ IsLate (DeviceFault dev) = Unit {0}
 IsLate (Copy fault) = Unit {0}
 IsLate NoMemory = ⊥
 
--- a job is copied as its words says
+-- a job is copied as its words say
 pub record IsOfRequest (request : CopyRequest) (job : CopyJob) : Type 0 where
   pub unit : job.id.unit ≡ request.unit
   pub mode : job.mode ≡ request.mode
