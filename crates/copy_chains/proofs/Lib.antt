@@ -1,2 +1,2 @@
 -- lemmas
-mod CopyLemmas
+pub mod CopyLemmas

@@ -1,0 +1,3 @@
+-- lemmas
+mod MapLemmas
+mod CopyLemmas

@@ -1,0 +1,3 @@
+-- definitions that contracts cite
+pub mod Copies
+pub mod Laws
