@@ -72,6 +72,13 @@ impl<T: Drop> List<T> {
         Ok(())
     }
 
+    /// Gives back the memory behind the last item, where the allocator can.
+    pub fn fit(&mut self)
+        ensures { self.new ≡ self.old }
+    {
+        self.items.shrink_to_fit();
+    }
+
     /// Puts an item in the place of number `i`, which is let go.
     pub fn set(&mut self, i: usize, item: T)
         requires { i < length self.old }

@@ -145,7 +145,7 @@ impl Outline {
         Ok(Outline { items, inside })
     }
 
-    /// With the innermost open section ended.
+    /// With the innermost open section ended, which keeps no more memory than its items take.
     pub fn end(self) -> Result<Outline, NoMemory>
         ensures made { IfOk result (λ after. after ≡ closed self) }
         ensures deeper { IfOk result (λ after. deeper_of after ≤ deeper_of self) }
@@ -153,15 +153,17 @@ impl Outline {
         let Outline { mut items, inside } = self;
         let inside = match inside {
             OpenSections::Nothing => OpenSections::Nothing,
-            OpenSections::Outer(outer) => {
+            OpenSections::Outer(mut outer) => {
+                outer.items.fit();
                 items.push(TopItem::Section(outer))?;
                 OpenSections::Nothing
             }
             OpenSections::Inner {
                 mut outer,
-                inner,
+                mut inner,
                 deeper: 0,
             } => {
+                inner.items.fit();
                 outer.items.push(SectionItem::Section(inner))?;
                 OpenSections::Outer(outer)
             }
