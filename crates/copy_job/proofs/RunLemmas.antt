@@ -15,11 +15,12 @@ use Rattle.copier.specs.declared.faults.CopyFault.TheVariants as run
 use Rattle.copier_course.specs.Courses.{IsCopyJob}
 use Rattle.copier_course.specs.declared.jobs.CopyJob.{CopyJob}
 use Rattle.copy_journal.specs.Faults.{HasFailed}
+use Rattle.copy_run.proofs.AnswerLemmas.{rose_more}
 use Rattle.copy_run.specs.Faults.{IsRunFault}
 use Rattle.copy_run.specs.Runs.{RunIsNarrow, RunKeepsMarks, RunKeepsSince, TellsFile}
 use Rattle.copy_run.specs.declared.running.Tally.{Tally}
 use Rattle.copy_stages.specs.Stages.{KeepsOwn}
-use Rattle.outside.specs.Counts.{Counts, NoneFell, Rose}
+use Rattle.outside.specs.Counts.{Counts, NoneFell}
 use Rattle.outside.specs.Files.{Tree}
 use Rattle.copy_job.proofs.LookLemmas.{looked_none, marks_looked, narrow_looked, own_looked, since_looked}
 use Rattle.copy_job.specs.Copies.{OfRun}
@@ -104,13 +105,10 @@ said_read file after said job answer same is read =
     (subst (λ (f : Tree). OfRun (TellsFile (f job.source)) answer) same read)
 
 -- ---- why a run isn't done
-rose_before : (a b c : ℕ) → a ≤ b → Rose b c → Rose a c
-rose_before a b c before rose = omega (arith, before, rose)
-
 failed_before : (dev : Dev) (a b c : Meter) → a.faults.target ≤ b.faults.target → a.faults.journal ≤ b.faults.journal →
     HasFailed dev b c → HasFailed dev a c
-failed_before Target a b c target journal failed = rose_before a.faults.target b.faults.target c.faults.target target failed
-failed_before Journal a b c target journal failed = rose_before a.faults.journal b.faults.journal c.faults.journal journal failed
+failed_before Target a b c target journal failed = rose_more a.faults.target b.faults.target c.faults.target target failed
+failed_before Journal a b c target journal failed = rose_more a.faults.journal b.faults.journal c.faults.journal journal failed
 
 -- by the counts of a whole that the run is the end of
 pub run_caused : (told : Type 0) (job : CopyJob) (disk : Disk) (before mid now : Counts) (a b c : Meter) →
@@ -121,18 +119,15 @@ run_caused told job disk before mid now a b c fell target journal (run.JournalHe
 run_caused told job disk before mid now a b c fell target journal run.NoJournal cause = cause
 run_caused told job disk before mid now a b c fell target journal (run.JournalForeign kept given len) cause = cause
 run_caused told job disk before mid now a b c fell target journal (run.SourceShort at) cause =
-    rose_before before.ends mid.ends now.ends fell.ends cause
+    rose_more before.ends mid.ends now.ends fell.ends cause
 run_caused told job disk before mid now a b c fell target journal run.Missing cause =
-    rose_before before.absences mid.absences now.absences fell.absences cause
+    rose_more before.absences mid.absences now.absences fell.absences cause
 run_caused told job disk before mid now a b c fell target journal run.FileFault cause =
-    rose_before before.faults mid.faults now.faults fell.faults cause
+    rose_more before.faults mid.faults now.faults fell.faults cause
 run_caused told job disk before mid now a b c fell target journal (run.DeviceFault dev) cause =
     failed_before dev a b c target journal cause
 run_caused told job disk before mid now a b c fell target journal (run.RangeDiffers range want got) cause = cause
 run_caused told job disk before mid now a b c fell target journal run.NoMemory cause = cause
-
-pub none_fell : (a : Counts) → NoneFell a a
-none_fell a = record { faults = omega arith; absences = omega arith; ends = omega arith }
 
 by_answer : (told : Type 0) (job : CopyJob) (disk : Disk) (before mid now : Counts) (a b : Meter) → NoneFell before mid →
     (answer : Result Tally CopyJobFault) → OfRun (λ r. IfErr r (IsRunFault told job disk mid now a b)) answer →

@@ -1,17 +1,14 @@
 -- What holds of any words where memory is refused for them.
 use lib.Count.{ones}
-use Rattle.std.proofs.Common.{◌≡◌, ℕ, [], Option, Some, None, Result, Ok, Err, refl, arith, inl, inr, subst, sym}
+use Rattle.std.proofs.Common.{◌≡◌, ℕ, Option, Some, None, Result, Ok, Err, refl, arith, inl, inr, subst, sym}
 use Rattle.std.specs.Prelude.{◌⊎◌, IfErr, IfOk, length}
 use Rattle.outside.specs.Counts.{Counts}
 use Rattle.outside.specs.Files.{Tree}
 use Rattle.answer_lines.specs.declared.answer.Answer.TheVariants.{NoMemory}
-use Rattle.bench.specs.Meter.{Costs, CostsOn, Meter}
+use Rattle.bench.specs.Meter.{Meter}
 use Rattle.bench.specs.declared.Dev.TheVariants as dev
-use Rattle.block_map.specs.Maps.{IsMap}
-use Rattle.block_map.specs.declared.maps.BlockMap.{BlockMap}
 use Rattle.job_words.specs.declared.jobs.WordFault.{WordFault}
 use Rattle.list_job.specs.declared.fault.ListFault.TheVariants as list
-use Rattle.verify_job.specs.Devices.{most_work}
 use Rattle.bench.proofs.DiskLemmas.{looked_keeps}
 use Rattle.bench.specs.Disk.{Disk, Looked, StillLeaves}
 use Rattle.bench.specs.declared.Dev.{Dev}
@@ -19,7 +16,7 @@ use Rattle.base_fields.specs.Numbers.{IsPowerBetween}
 use Rattle.copier.specs.declared.faults.CopyFault.{CopyFault}
 use Rattle.copier_course.specs.declared.jobs.CopyJob.{CopyJob}
 use Rattle.copy_job.proofs.LookLemmas.{marks_looked, narrow_looked, own_looked, since_looked}
-use Rattle.copy_job.proofs.RunLemmas.{nothing_done}
+use Rattle.copy_job.proofs.RunLemmas.{no_cost, nothing_done}
 use Rattle.copy_job.specs.Devices.{IsBounded as IsCopyBounded}
 use Rattle.copy_job.specs.Said.{copying_said}
 use Rattle.copy_job.specs.declared.faults.CopyJobFault.{CopyJobFault}
@@ -31,6 +28,7 @@ use Rattle.copy_stages.specs.Stages.{KeepsOwn}
 use Rattle.device_commands.specs.CopyArm.{IsUnwritten, Tells}
 use Rattle.journal_format.specs.Journals.{IsHeld}
 use Rattle.answer_lines.specs.declared.answer.Answer.{Answer}
+use Rattle.verify_job.proofs.Bounds as device
 use Rattle.verify_job.specs.declared.faults.VerifyJobFault.TheVariants as verify
 use Rattle.image_jobs.specs.OnDevices.{HasBill, HasBound, HasForgotten, IsAsBefore, KeepsItsJournal, KeepsMarks, KeepsSince, LeavesDevices}
 use Rattle.image_jobs.specs.OnDevices.{LeavesUnsaid, StaysNarrow, WritesNothing, of_copy}
@@ -55,40 +53,6 @@ memory_caused (Some (Listed image)) before now old new lines_before lines_now =
 
 -- ---- devices of which nothing was asked
 
-abbrev no_map : BlockMap
-no_map = record { size = 0; block = 512; ranges = [] }
-
-no_map_holds : IsMap no_map
-unfolding ones
-no_map_holds = record {
-  size = omega arith;
-  block = record { power = refl; not_below = omega arith; not_above = omega arith };
-  few = omega arith;
-  filled = λ k d below. absurd (omega (arith, below));
-  ascend = λ i j d lower upper. absurd (omega (arith, upper));
-  below = λ k d below. absurd (omega (arith, below));
-}
-
-nothing_costs : (n : ℕ) (meter : Meter) → CostsOn dev.Target n meter meter
-nothing_costs n meter = record {
-  none_fell = omega arith;
-  other = refl;
-  no_less = omega arith;
-  work = omega arith;
-  room = refl;
-  sure = refl;
-}
-
-nothing_on : (device : Dev) (n : ℕ) (meter : Meter) → CostsOn device n meter meter
-nothing_on device n meter = record {
-  none_fell = omega arith;
-  other = refl;
-  no_less = omega arith;
-  work = omega arith;
-  room = refl;
-  sure = refl;
-}
-
 some_unit : IsPowerBetween 65536 4194304 65536
 unfolding ones
 some_unit = record { power = refl; not_below = omega arith; not_above = omega arith }
@@ -100,33 +64,22 @@ copy_bounded request meter =
     record { job = bound.job; holds = bound.holds; costs = bound.costs }
 
 pub nothing_bounded : (command : Option Command) (meter : Meter) → HasBound command meter meter
-nothing_bounded None meter = nothing_costs 0 meter
-nothing_bounded (Some (Build request)) meter = nothing_costs 0 meter
-nothing_bounded (Some (Map mapping)) meter = nothing_costs 0 meter
+nothing_bounded None meter = device.no_cost dev.Target 0 meter
+nothing_bounded (Some (Build request)) meter = device.no_cost dev.Target 0 meter
+nothing_bounded (Some (Map mapping)) meter = device.no_cost dev.Target 0 meter
 nothing_bounded (Some (Copy request)) meter = copy_bounded request meter
-nothing_bounded (Some (Forget journal)) meter = nothing_on dev.Journal _ meter
-nothing_bounded (Some (Verify map target)) meter =
-    record { map = no_map; holds = no_map_holds; costs = nothing_costs (most_work (length target) no_map) meter }
-nothing_bounded (Some (Listed image)) meter = nothing_costs 0 meter
-
-no_cost : (n : ℕ) (meter : Meter) → Costs n meter meter
-no_cost n meter = record {
-  target = omega arith;
-  journal = omega arith;
-  no_less = omega arith;
-  work = omega arith;
-  room = refl;
-  sure = refl;
-}
+nothing_bounded (Some (Forget journal)) meter = device.no_cost dev.Journal _ meter
+nothing_bounded (Some (Verify map target)) meter = device.nothing_done (length target) meter
+nothing_bounded (Some (Listed image)) meter = device.no_cost dev.Target 0 meter
 
 pub nothing_billed : (command : Option Command) (file : Tree) (meter : Meter) → HasBill command file meter meter
-nothing_billed None file meter = nothing_on dev.Target 0 meter
-nothing_billed (Some (Build request)) file meter = nothing_on dev.Target 0 meter
-nothing_billed (Some (Map mapping)) file meter = nothing_on dev.Target 0 meter
+nothing_billed None file meter = device.no_cost dev.Target 0 meter
+nothing_billed (Some (Build request)) file meter = device.no_cost dev.Target 0 meter
+nothing_billed (Some (Map mapping)) file meter = device.no_cost dev.Target 0 meter
 nothing_billed (Some (Copy request)) file meter = no_cost _ meter
-nothing_billed (Some (Forget journal)) file meter = nothing_on dev.Journal _ meter
-nothing_billed (Some (Verify map target)) file meter = nothing_on dev.Target _ meter
-nothing_billed (Some (Listed image)) file meter = nothing_on dev.Target 0 meter
+nothing_billed (Some (Forget journal)) file meter = device.no_cost dev.Journal _ meter
+nothing_billed (Some (Verify map target)) file meter = device.no_cost dev.Target _ meter
+nothing_billed (Some (Listed image)) file meter = device.no_cost dev.Target 0 meter
 
 each_job : (said : Result CopyJob CopyJobFault) (P : CopyJob → Type 0) → ((job : CopyJob) → P job) → IfOk said P
 each_job (Ok job) P each = each job

@@ -2,13 +2,14 @@
 use Rattle.std.proofs.Common.{ℕ, [], arith, refl}
 use Rattle.std.proofs.lemmas.List.Elements.{All-nil}
 use Rattle.bench.specs.Meter.{CostsOn, Meter}
+use Rattle.bench.specs.declared.Dev.{Dev}
 use Rattle.bench.specs.declared.Dev.TheVariants.{Target}
 use Rattle.block_map.specs.Maps.{IsMap}
 use Rattle.block_map.specs.declared.maps.BlockMap.{BlockMap}
 use Rattle.verify_job.specs.Devices.{IsBounded, most_work}
 
-no_cost : (n : ℕ) (a : Meter) → CostsOn Target n a a
-no_cost n a = record {
+pub no_cost : (device : Dev) (n : ℕ) (a : Meter) → CostsOn device n a a
+no_cost device n a = record {
   none_fell = omega arith;
   other = refl;
   no_less = omega arith;
@@ -33,4 +34,4 @@ bare_is_map = record {
 }
 
 pub nothing_done : (n : ℕ) (a : Meter) → IsBounded n a a
-nothing_done n a = record { map = bare; holds = bare_is_map; costs = no_cost (most_work n bare) a }
+nothing_done n a = record { map = bare; holds = bare_is_map; costs = no_cost Target (most_work n bare) a }

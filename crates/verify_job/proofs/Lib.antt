@@ -1,2 +1,2 @@
 -- lemmas
-mod Bounds
+pub mod Bounds

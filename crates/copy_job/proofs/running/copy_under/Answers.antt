@@ -1,6 +1,7 @@
 use Rattle.std.proofs.Common.{Err, Ok}
 use Rattle.copy_job.proofs.LookLemmas.{held_then, marks_looked, marks_then, narrow_looked, narrow_then, opens_then, outcome_then, own_looked, own_then, since_looked, since_then}
-use Rattle.copy_job.proofs.RunLemmas.{none_fell, run_caused}
+use Rattle.copy_job.proofs.RunLemmas.{run_caused}
+use Rattle.copy_run.proofs.AnswerLemmas.{none_fell_yet}
 use Rattle.copy_job.proofs.running.copy_under.Goals as goal
 
 pub returns-in-Err-clause-since : goal.returns-in-Err-clause-since
@@ -58,7 +59,7 @@ returns-in-Err-copy_all-clause-outcome g c told =
 pub returns-in-Err-copy_all-clause-caused : goal.returns-in-Err-copy_all-clause-caused
 returns-in-Err-copy_all-clause-caused g c =
     run_caused g.B.Bench.told c.args.job.now (g.B.Bench.disk c.copy_all.new.bench) (g.F.Files.counts c.args.files.now) (g.F.Files.counts c.args.files.now) (g.F.Files.counts c.copy_all.new.files)
-    (g.B.Bench.meter c.args.bench.now) (g.B.Bench.meter c.attach_both.new.bench) (g.B.Bench.meter c.copy_all.new.bench) (none_fell (g.F.Files.counts c.args.files.now))
+    (g.B.Bench.meter c.args.bench.now) (g.B.Bench.meter c.attach_both.new.bench) (g.B.Bench.meter c.copy_all.new.bench) (none_fell_yet (g.F.Files.counts c.args.files.now))
     c.attach_both.ensures.bill.target c.attach_both.ensures.bill.journal c.in-Err-copy_all.fault c.in-Err-copy_all.ensures.cause
 
 pub returns-in-Err-clause-keeps : goal.returns-in-Err-clause-keeps
