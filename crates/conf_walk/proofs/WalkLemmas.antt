@@ -1,5 +1,6 @@
 -- What is still to walk of a stack of texts, as texts are read, include others and end.
-use Rattle.std.proofs.Common.{◌≡◌, ℕ, ◌+◌, ◌-◌, ◌<◌, ◌≤◌, suc, List, [], ◌∷◌, ◌++◌, length, Result, Ok, Err, ap, sym, ◌∙◌, refl, arith, length-append}
+use Rattle.std.proofs.Common.{◌≡◌, ℕ, ◌+◌, ◌-◌, ◌<◌, ◌≤◌, ◌⊎◌, inl, inr, suc, List, [], ◌∷◌, ◌++◌, length, Ok, Err, ap, sym, ◌∙◌, refl, arith, length-append}
+use Rattle.std.proofs.lemmas.Bool.{cases_lt}
 use Rattle.base_fields.specs.declared.names.Pair.{Pair}
 use Rattle.outside.specs.Files.{Tree}
 use Rattle.conf_items.specs.Grammar.{start}
@@ -10,7 +11,7 @@ use Rattle.base_fields.specs.Results.{◌>>=◌}
 use Rattle.conf_texts.specs.Texts.{nothing_read, text_read, with_text}
 use Rattle.conf_walk.specs.Walk.{nestings, text_walked, texts_in, texts_of, tokens_walked}
 use Rattle.conf_texts.specs.declared.fault.WalkFault.{WalkFault}
-use Rattle.conf_texts.specs.declared.fault.WalkFault.TheVariants.{DeepInclude}
+use Rattle.conf_texts.specs.declared.fault.WalkFault.TheVariants.{DeepInclude, NoMemory}
 use Rattle.conf_walk.specs.declared.running.OpenText.{OpenText}
 use Rattle.conf_texts.specs.declared.texts.Reading.{Reading}
 use Rattle.conf_texts.specs.declared.texts.Text.{Text}
@@ -56,6 +57,18 @@ enter-refused vars file texts name reading fault room h =
     refuses-bind walked (resumed vars file 8 texts) fault
     (refuses-along walked _ fault (walked-read vars file (nestings - length texts) (8 - length texts) name reading next)
     (refuses-bind (text_read file name reading) (λ text. tokens_walked (text_walked vars file (8 - length texts)) vars text text.tokens start (with_text reading text)) fault h))
+
+-- so of a text that isn't opened, where so many are
+pub opening-refused : (vars : List Pair) (file : Tree) (texts : List OpenText) (name : List ℕ) (reading : Reading) (fault : WalkFault) (depth : ℕ) → depth ≡ length texts →
+    (nestings ≤ depth → (fault ≡ DeepInclude name) ⊎ (fault ≡ NoMemory)) → (depth < nestings → Refuses (text_read file name reading) fault) →
+    Refuses (then_walked vars file texts name reading) fault
+opening-refused vars file texts name reading fault depth same deep read =
+    elim (cases_lt depth nestings) [
+      inl few ↦ enter-refused vars file texts name reading fault (omega (arith, few, same)) (read few)
+    | inr many ↦ too-deep (deep many) (enters-too-deep vars file texts name reading (omega (arith, many, same)))]
+  where
+    too-deep : (fault ≡ DeepInclude name) ⊎ (fault ≡ NoMemory) → then_walked vars file texts name reading ≡ Err (DeepInclude name) → Refuses (then_walked vars file texts name reading) fault
+    too-deep why refused = elim why [ inl is ↦ rw is refused | inr is ↦ rw is tt ]
 
 -- a text that is read
 pub enters : (vars : List Pair) (file : Tree) (texts : List OpenText) (name : List ℕ) (reading : Reading) (source : Text) → length texts < 9 → text_read file name reading ≡ Ok source →

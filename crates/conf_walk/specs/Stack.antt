@@ -12,7 +12,6 @@ use Rattle.conf_texts.specs.Steps.{met, reading_of}
 use Rattle.conf_texts.specs.Texts.{most_bytes}
 use Rattle.conf_walk.specs.Walk.{nestings, text_walked, tokens_walked}
 use Rattle.conf_texts.specs.declared.fault.WalkFault.{WalkFault}
-use Rattle.conf_texts.specs.declared.steps.Taken.{Taken}
 use Rattle.conf_walk.specs.declared.running.OpenText.{OpenText}
 use Rattle.conf_walk.specs.declared.running.Stop.{Stop}
 use Rattle.conf_walk.specs.declared.running.Stop.TheVariants as stop

@@ -1,5 +1,6 @@
 //! One text: its tokens one after another, up to its end or a text that is included.
-ghost use Rattle.std.specs.Prelude.{◌≡◌, ℕ, ◌+◌, ◌≤◌, All, IfErr, IfOk, List, Result, Some, length, slice_get};
+ghost use Rattle.std.specs.Prelude.{◌≡◌, ℕ, ◌+◌, ◌≤◌, ◌⊎◌, All, IfErr, IfOk, List, OnErr, OnOk, Result, Some, false, length, slice_get, true};
+ghost use Rattle.conf_items.specs.Grammar.{may_end};
 ghost use Rattle.conf_items.specs.Outline.{deeper_of};
 ghost use Rattle.conf_lexer.specs.Standing.{StandsIn};
 ghost use Rattle.conf_texts.specs.Answers.{IsNoFileFault};
@@ -87,6 +88,28 @@ fn walk_token(
     })
 }
 
+// The refusal of a text that ends within an item or a section.
+fn look_at_end(alloc: Global, text: &OpenText) -> Result<(), WalkFault>
+    ensures ok { OnOk result (may_end text.now.parser ≡ true) }
+    ensures err { OnErr result (may_end text.now.parser ≡ false) }
+    ensures fault { IfErr result (λ fault. (fault ≡ WalkFault.BadText text.now.source.name (length text.now.source.bytes)) ⊎ (fault ≡ WalkFault.NoMemory)) }
+{
+    if text.parser.may_end() {
+        return Ok(());
+    }
+    let end = text.source.bytes.bytes().len() as u64;
+    Err(bad_text(alloc, text.source.name.text(), end)?)
+}
+
+// Lets go of a text that was walked, where it may end. It is dropped here, apart from what was read.
+fn end_text(alloc: Global, text: OpenText) -> Result<(), WalkFault>
+    ensures ok { OnOk result (may_end text.parser ≡ true) }
+    ensures err { OnErr result (may_end text.parser ≡ false) }
+    ensures fault { IfErr result (λ fault. (fault ≡ WalkFault.BadText text.source.name (length text.source.bytes)) ⊎ (fault ≡ WalkFault.NoMemory)) }
+{
+    look_at_end(alloc, &text)
+}
+
 /// Walks the tokens of a text up to its end or a text that is included. Takes memory.
 pub fn run_text(
     alloc: Global,
@@ -113,9 +136,6 @@ pub fn run_text(
             Taken::Includes(name, after) => return Ok(Stop::Includes(behind, name, after)),
         }
     }
-    if !text.parser.may_end() {
-        let end = text.source.bytes.bytes().len() as u64;
-        return Err(bad_text(alloc, text.source.name.text(), end)?);
-    }
+    end_text(alloc, text)?;
     Ok(Stop::Ended(reading))
 }

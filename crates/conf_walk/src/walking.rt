@@ -1,15 +1,17 @@
-ghost use Rattle.std.specs.Prelude.{◌≡◌, ◌+◌, ◌<◌, ◌≤◌, ◌∷◌, ◌++◌, [], IfErr, IfOk, List, OnOk};
+ghost use Rattle.std.specs.Prelude.{◌≡◌, ◌+◌, ◌<◌, ◌≤◌, ◌⊎◌, ◌∷◌, ◌++◌, [], All, IfErr, IfOk, List, OnOk, length};
 ghost use Rattle.base_fields.specs.declared.names.Pair.{Pair};
 ghost use Rattle.outside.specs.Counts.{NoneFell};
+ghost use Rattle.conf_lexer.specs.Standing.{StandsIn};
 ghost use Rattle.conf_texts.specs.Answers.{Answers, HasCause};
-ghost use Rattle.conf_walk.specs.Stack.{IsStack, Leads, stack_walked, then_walked, work_left};
-ghost use Rattle.conf_walk.specs.Walk.{texts_in, texts_of};
+ghost use Rattle.conf_texts.specs.Texts.{most_bytes, text_read, with_text};
+ghost use Rattle.conf_walk.specs.Stack.{IsStack, Leads, begun, stack_walked, then_walked, work_left};
+ghost use Rattle.conf_walk.specs.Walk.{nestings, texts_in, texts_of};
 
 use crate::running::{OpenText, Stop, run_text};
 use crate::{Vars, WalkFault};
 use base_fields::{List, Name, NoMemory};
 use conf_items::{Outline, TopItem};
-use conf_texts::{Reading, read_text};
+use conf_texts::{Reading, Text, read_text};
 use outside::Files;
 use std::alloc::Global;
 
@@ -44,6 +46,49 @@ fn push(stack: &mut Vec<OpenText>, text: OpenText) -> Result<(), WalkFault>
     Ok(())
 }
 
+// The text of that name, where `depth` texts are open. Takes memory.
+fn open_text<F: Files>(
+    alloc: Global,
+    files: &mut F,
+    name: &str,
+    depth: usize,
+    reading: &Reading,
+) -> Result<Text, WalkFault>
+    ensures none_fell { NoneFell (F.counts files.old) (F.counts files.new) }
+    ensures cause { IfErr result (HasCause (F.counts files.old) (F.counts files.new)) }
+    ensures same_files { F.file files.new ≡ F.file files.old }
+    ensures stands { IfOk result (λ text. All (StandsIn text.bytes) text.tokens) }
+    ensures count { IfOk result (λ text. length text.tokens ≤ length text.bytes) }
+    ensures limit { IfOk result (λ text. reading.now.total + length text.bytes ≤ most_bytes) }
+    ensures few { IfOk result (λ text. depth < nestings) }
+    ensures deep { IfErr result (λ fault. nestings ≤ depth → (fault ≡ WalkFault.DeepInclude name.now) ⊎ (fault ≡ WalkFault.NoMemory)) }
+    ensures answers { F.told → depth < nestings → Answers (text_read (F.file files.old) name.now reading.now) result }
+{
+    if depth >= NESTINGS {
+        return Err(too_deep(alloc, name)?);
+    }
+    read_text(alloc, files, name, reading)
+}
+
+// Puts a text that was read on the stack. Takes memory.
+fn add_text(
+    alloc: Global,
+    source: Text,
+    stack: &mut Vec<OpenText>,
+    reading: Reading,
+) -> Result<Reading, WalkFault>
+    requires stands { All (StandsIn source.bytes) source.tokens }
+    requires count { length source.tokens ≤ length source.bytes }
+    requires limit { reading.total + length source.bytes ≤ most_bytes }
+    ensures made { IfOk result (λ after. after ≡ with_text reading source) }
+    ensures pushed { OnOk result (stack.new.items ≡ stack.old.items ++ begun source ∷ []) }
+    ensures fault { IfErr result (λ fault. fault ≡ WalkFault.NoMemory) }
+{
+    let after = reading.add(alloc, &source)?;
+    push(stack, OpenText::new(source))?;
+    Ok(after)
+}
+
 // Reads the text of that name and puts it on the stack. Takes memory.
 fn enter<F: Files>(
     alloc: Global,
@@ -60,12 +105,8 @@ fn enter<F: Files>(
     ensures work { IfOk result (λ after. work_left stack.new.items after ≤ work_left stack.old.items reading + 1) }
     ensures leads { F.told → (vars : List Pair) → Leads (then_walked vars (F.file files.old) stack.old.items name.now reading) (stack_walked vars (F.file files.old) stack.new.items) result }
 {
-    if stack.len() >= NESTINGS {
-        return Err(too_deep(alloc, name)?);
-    }
-    let source = read_text(alloc, files, name, &reading)?;
-    let after = reading.add(alloc, &source)?;
-    push(stack, OpenText::new(source))?;
+    let source = open_text(alloc, files, name, stack.len(), &reading)?;
+    let after = add_text(alloc, source, stack, reading)?;
     Ok(after)
 }
 
