@@ -64,8 +64,9 @@ pub opening-refused : (vars : List Pair) (file : Tree) (texts : List OpenText) (
     Refuses (then_walked vars file texts name reading) fault
 opening-refused vars file texts name reading fault depth same deep read =
     elim (cases_lt depth nestings) [
-      inl few ↦ enter-refused vars file texts name reading fault (omega (arith, few, same)) (read few)
-    | inr many ↦ too-deep (deep many) (enters-too-deep vars file texts name reading (omega (arith, many, same)))]
+      | inl few ↦ enter-refused vars file texts name reading fault (omega (arith, few, same)) (read few)
+      | inr many ↦ too-deep (deep many) (enters-too-deep vars file texts name reading (omega (arith, many, same)))
+    ]
   where
     too-deep : (fault ≡ DeepInclude name) ⊎ (fault ≡ NoMemory) → then_walked vars file texts name reading ≡ Err (DeepInclude name) → Refuses (then_walked vars file texts name reading) fault
     too-deep why refused = elim why [ inl is ↦ rw is refused | inr is ↦ rw is tt ]

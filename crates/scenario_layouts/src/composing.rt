@@ -2,9 +2,10 @@
 ghost use Rattle.std.specs.Prelude.{◌≡◌, ◌≢◌, ◌⊎◌, IsTrue, Some};
 ghost use Rattle.image_composer.specs.Images.{IsOwnFile};
 ghost use Rattle.image_layout.specs.IsLayout.{IsLayout};
+ghost use Rattle.scenario_layouts.specs.Plans.{IsPlan};
 
+use crate::layout_steps::refusal_line;
 use crate::planning::{Plan, plan_of};
-use crate::shown_refusal::ShownPlaceFault;
 use anyhow::{Result, bail};
 use image_composer::compose;
 use image_layout::{Layout, Placed};
@@ -17,13 +18,16 @@ const BUFFER: u32 = 16_384;
 
 /// Makes an image of a configuration, and says its file and its size.
 pub fn make_image(setting: &mut Setting, conf: &str, image: &str) -> Result<String> {
-    let alloc = setting.alloc;
-    match &plan_of(setting, conf, image)? {
+    let plan = plan_of(setting, conf, image)?;
+    made_of(setting, &plan)
+}
+
+fn made_of(setting: &mut Setting, plan: &Plan) -> Result<String>
+    requires { IsPlan plan.now }
+{
+    match plan {
         Plan::Placed(layout) => made(setting, layout),
-        Plan::Refused(fault) => {
-            let shown = ShownPlaceFault(fault);
-            Ok(format!(in alloc; "no layout: {shown}")?)
-        }
+        Plan::Refused(fault) => refusal_line(setting.alloc, fault),
     }
 }
 

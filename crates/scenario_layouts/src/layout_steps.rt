@@ -1,10 +1,16 @@
 //! Steps on layouts.
+ghost use Rattle.image_layout.specs.IsLayout.{IsLayout};
+ghost use Rattle.scenario_layouts.specs.Plans.{IsPlan};
+
 use crate::composing::make_image;
 use crate::planning::{Plan, plan_of};
 use crate::shown_layout::ShownLayout;
 use crate::shown_refusal::ShownPlaceFault;
 use anyhow::Result;
+use image_layout::Layout;
+use placement::PlaceFault;
 use scenario_words::{Arguments, Setting};
+use std::alloc::Global;
 
 /// A step on the layout of an image.
 #[derive(Debug, Drop)]
@@ -49,36 +55,50 @@ impl LayoutStep {
 }
 
 fn show_layout(setting: &mut Setting, conf: &str, image: &str) -> Result<String> {
-    let alloc = setting.alloc;
-    match &plan_of(setting, conf, image)? {
+    let plan = plan_of(setting, conf, image)?;
+    layout_line(setting.alloc, &plan)
+}
+
+fn layout_line(alloc: Global, plan: &Plan) -> Result<String> {
+    match plan {
         Plan::Placed(layout) => {
             let shown = ShownLayout(layout);
             Ok(format!(in alloc; "layout {shown}")?)
         }
-        Plan::Refused(fault) => {
-            let shown = ShownPlaceFault(fault);
-            Ok(format!(in alloc; "no layout: {shown}")?)
-        }
+        Plan::Refused(fault) => refusal_line(alloc, fault),
+    }
+}
+
+/// The line of an image that isn't placed.
+pub fn refusal_line(alloc: Global, fault: &PlaceFault) -> Result<String> {
+    let shown = ShownPlaceFault(fault);
+    Ok(format!(in alloc; "no layout: {shown}")?)
+}
+
+fn show_covered(setting: &mut Setting, conf: &str, image: &str) -> Result<String> {
+    let plan = plan_of(setting, conf, image)?;
+    covered_in(setting.alloc, &plan)
+}
+
+fn covered_in(alloc: Global, plan: &Plan) -> Result<String>
+    requires { IsPlan plan.now }
+{
+    match plan {
+        Plan::Placed(layout) => covered_line(alloc, layout),
+        Plan::Refused(fault) => refusal_line(alloc, fault),
     }
 }
 
 /// Each span of the cover as its place and its length.
-fn show_covered(setting: &mut Setting, conf: &str, image: &str) -> Result<String> {
-    let alloc = setting.alloc;
-    match &plan_of(setting, conf, image)? {
-        Plan::Placed(layout) => {
-            let cover = layout.covered(alloc)?;
-            let mut line = String::from_str(alloc, "covered")?;
-            for span in cover.spans() {
-                let at = span.at;
-                let len = span.len;
-                write!(line, " {at}+{len}")?;
-            }
-            Ok(line)
-        }
-        Plan::Refused(fault) => {
-            let shown = ShownPlaceFault(fault);
-            Ok(format!(in alloc; "no layout: {shown}")?)
-        }
+fn covered_line(alloc: Global, layout: &Layout) -> Result<String>
+    requires { IsLayout layout.now }
+{
+    let cover = layout.covered(alloc)?;
+    let mut line = String::from_str(alloc, "covered")?;
+    for span in cover.spans() {
+        let at = span.at;
+        let len = span.len;
+        write!(line, " {at}+{len}")?;
     }
+    Ok(line)
 }

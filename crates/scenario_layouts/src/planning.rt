@@ -1,5 +1,6 @@
 //! The layout of an image by what the files of a scenario say.
 ghost use Rattle.std.specs.Prelude.{◌≡◌, ◌≤◌, All, IfOk, IsTrue, None, length};
+ghost use Rattle.conf_keys.specs.Within.{IsWithin};
 ghost use Rattle.conf_keys.specs.declared.conf.Kind.TheVariants.{Flash};
 ghost use Rattle.image_specs.specs.IsSpec.{IsSpec};
 ghost use Rattle.placement_apart.specs.Apart.{AreLengths};
@@ -8,7 +9,7 @@ ghost use Rattle.scenario_layouts.specs.Plans.{IsPlan};
 
 use anyhow::{Result, bail};
 use base_fields::List;
-use conf_sections::{Kind, read_conf};
+use conf_sections::{Conf, ConfFault, Kind, read_conf};
 use flash_geometry::{Geometry, place_flash};
 use image_graph::{Graph, ImageSpec, Source, graph};
 use image_layout::Layout;
@@ -32,6 +33,14 @@ pub fn plan_of(setting: &mut Setting, conf: &str, image: &str) -> Result<Plan>
     ensures { IfOk result IsPlan }
 {
     let graph = read_graph(setting, conf)?;
+    plan_in(setting, &graph, image)
+}
+
+// Graphs and configurations are large to let go of, so each is dropped in one place.
+fn plan_in(setting: &mut Setting, graph: &Graph, image: &str) -> Result<Plan>
+    requires specs { All IsSpec graph.now.specs }
+    ensures { IfOk result IsPlan }
+{
     let Some(number) = graph.find(image) else {
         bail!("no such image: {image}");
     };
@@ -45,10 +54,19 @@ fn read_graph(setting: &mut Setting, conf: &str) -> Result<Graph>
     ensures few { IfOk result (λ graph. length graph.specs ≤ 64) }
     ensures specs { IfOk result (λ graph. All IsSpec graph.specs) }
 {
-    let Ok(conf) = read_conf(setting.alloc, &mut setting.files, conf, &setting.vars) else {
-        bail!("no configuration: {conf}");
+    let read = read_conf(setting.alloc, &mut setting.files, conf, &setting.vars);
+    graph_of(setting.alloc, &read)
+}
+
+fn graph_of(alloc: Global, read: &std::result::Result<Conf, ConfFault>) -> Result<Graph>
+    requires { IfOk read.now IsWithin }
+    ensures few { IfOk result (λ graph. length graph.specs ≤ 64) }
+    ensures specs { IfOk result (λ graph. All IsSpec graph.specs) }
+{
+    let Ok(conf) = read else {
+        bail!("no configuration");
     };
-    match graph(setting.alloc, &conf) {
+    match graph(alloc, conf) {
         Ok(graph) => Ok(graph),
         Err(_) => bail!("no graph"),
     }

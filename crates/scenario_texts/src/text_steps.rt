@@ -4,10 +4,10 @@ use crate::shown_graph::{ShownGraph, ShownRefusal};
 use crate::shown_items::{ShownItems, ShownStop};
 use anyhow::{Result, bail};
 use conf_lexer::{LexFault, Token, TokenKind, lex};
-use conf_sections::read_conf;
-use conf_walk::read_texts;
+use conf_sections::{Conf, ConfFault, read_conf};
+use conf_walk::{Texts, WalkFault, read_texts};
 use conf_words::{ValueFault, value_of};
-use image_graph::graph;
+use image_graph::{Graph, GraphFault, graph};
 use scenario_words::{Arguments, Contents, Setting};
 use std::alloc::Global;
 
@@ -130,60 +130,97 @@ fn value(setting: &Setting, kind: TokenKind, spelling: &str) -> Result<String> {
     }
 }
 
+// A configuration is large to let go of, so each is dropped in one place, behind the line that is made of it.
+
 fn show_items(setting: &mut Setting, name: &str) -> Result<String> {
-    match &read_texts(setting.alloc, &mut setting.files, name, &setting.vars) {
+    let read = read_texts(setting.alloc, &mut setting.files, name, &setting.vars);
+    items_line(setting.alloc, &read)
+}
+
+fn items_line(alloc: Global, read: &std::result::Result<Texts, WalkFault>) -> Result<String> {
+    match read {
         Ok(texts) => {
             let shown = ShownItems(texts);
-            Ok(format!(in setting.alloc; "items{shown}")?)
+            Ok(format!(in alloc; "items{shown}")?)
         }
         Err(fault) => {
             let shown = ShownStop(fault);
-            Ok(format!(in setting.alloc; "no items: {shown}")?)
+            Ok(format!(in alloc; "no items: {shown}")?)
         }
     }
 }
 
 fn show_conf(setting: &mut Setting, name: &str) -> Result<String> {
-    match &read_conf(setting.alloc, &mut setting.files, name, &setting.vars) {
+    let read = read_conf(setting.alloc, &mut setting.files, name, &setting.vars);
+    conf_line(setting.alloc, &read)
+}
+
+fn conf_line(alloc: Global, read: &std::result::Result<Conf, ConfFault>) -> Result<String> {
+    match read {
         Ok(conf) => {
             let shown = ShownConf(conf);
-            Ok(format!(in setting.alloc; "conf{shown}")?)
+            Ok(format!(in alloc; "conf{shown}")?)
         }
-        Err(fault) => {
-            let shown = ShownFault(fault);
-            Ok(format!(in setting.alloc; "no conf: {shown}")?)
-        }
+        Err(fault) => no_conf(alloc, fault),
     }
 }
 
+fn no_conf(alloc: Global, fault: &ConfFault) -> Result<String> {
+    let shown = ShownFault(fault);
+    Ok(format!(in alloc; "no conf: {shown}")?)
+}
+
 fn show_graph(setting: &mut Setting, name: &str) -> Result<String> {
-    match &read_conf(setting.alloc, &mut setting.files, name, &setting.vars) {
-        Ok(conf) => match &graph(setting.alloc, conf) {
-            Ok(graph) => {
-                let shown = ShownGraph(graph);
-                Ok(format!(in setting.alloc; "graph{shown}")?)
-            }
-            Err(fault) => {
-                let shown = ShownRefusal(fault);
-                Ok(format!(in setting.alloc; "no graph: {shown}")?)
-            }
-        },
+    let read = read_conf(setting.alloc, &mut setting.files, name, &setting.vars);
+    graph_of(setting.alloc, &read)
+}
+
+fn graph_of(alloc: Global, read: &std::result::Result<Conf, ConfFault>) -> Result<String> {
+    match read {
+        Ok(conf) => graph_line(alloc, &graph(alloc, conf)),
+        Err(fault) => no_conf(alloc, fault),
+    }
+}
+
+fn graph_line(alloc: Global, made: &std::result::Result<Graph, GraphFault>) -> Result<String> {
+    match made {
+        Ok(graph) => {
+            let shown = ShownGraph(graph);
+            Ok(format!(in alloc; "graph{shown}")?)
+        }
         Err(fault) => {
-            let shown = ShownFault(fault);
-            Ok(format!(in setting.alloc; "no conf: {shown}")?)
+            let shown = ShownRefusal(fault);
+            Ok(format!(in alloc; "no graph: {shown}")?)
         }
     }
 }
 
 fn find(setting: &mut Setting, name: &str, image: &str) -> Result<String> {
-    let Ok(conf) = read_conf(setting.alloc, &mut setting.files, name, &setting.vars) else {
-        bail!("no conf");
-    };
-    let Ok(graph) = graph(setting.alloc, &conf) else {
+    let read = read_conf(setting.alloc, &mut setting.files, name, &setting.vars);
+    find_in(setting.alloc, &read, image)
+}
+
+fn find_in(
+    alloc: Global,
+    read: &std::result::Result<Conf, ConfFault>,
+    image: &str,
+) -> Result<String> {
+    match read {
+        Ok(conf) => number_line(alloc, &graph(alloc, conf), image),
+        Err(_) => bail!("no conf"),
+    }
+}
+
+fn number_line(
+    alloc: Global,
+    made: &std::result::Result<Graph, GraphFault>,
+    image: &str,
+) -> Result<String> {
+    let Ok(graph) = made else {
         bail!("no graph");
     };
     match graph.find(image) {
-        Some(number) => Ok(format!(in setting.alloc; "image {image} is number {number}")?),
-        None => Ok(format!(in setting.alloc; "image {image} isn't built")?),
+        Some(number) => Ok(format!(in alloc; "image {image} is number {number}")?),
+        None => Ok(format!(in alloc; "image {image} isn't built")?),
     }
 }

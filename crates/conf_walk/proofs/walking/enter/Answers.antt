@@ -15,7 +15,11 @@ pub returns-clause-stack : goal.returns-clause-stack
 returns-clause-stack g c =
     let source = c.in_ok-source.source in
     let open-text : IsOpen (begun source) = record {
-      stands = c.in_ok-source.ensures.stands; within = omega arith; count = omega (arith, c.in_ok-source.ensures.count, c.in_ok-source.ensures.limit); depth = omega arith } in
+      stands = c.in_ok-source.ensures.stands;
+      within = omega arith;
+      count = omega (arith, c.in_ok-source.ensures.count, c.in_ok-source.ensures.limit);
+      depth = omega arith;
+    } in
     rw (c.in_ok-after.ensures.pushed, c.in_ok-after.ensures.made)
     (stack-enters c.args.stack.now.items source c.args.reading c.requires (omega (arith, c.len.ensures, c.in_ok-source.ensures.few)) open-text c.in_ok-source.ensures.limit c.in_ok-source.ensures.count)
 
