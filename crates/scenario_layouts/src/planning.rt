@@ -38,6 +38,7 @@ pub fn plan_of(setting: &mut Setting, conf: &str, image: &str) -> Result<Plan>
 
 // Graphs and configurations are large to let go of, so each is dropped in one place.
 fn plan_in(setting: &mut Setting, graph: &Graph, image: &str) -> Result<Plan>
+    requires few { length graph.now.specs ≤ 64 }
     requires specs { All IsSpec graph.now.specs }
     ensures { IfOk result IsPlan }
 {

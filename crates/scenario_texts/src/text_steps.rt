@@ -1,4 +1,6 @@
 //! Steps on the texts of a configuration.
+ghost use Rattle.std.specs.Prelude.{◌≤◌, IfOk, length};
+
 use crate::shown_conf::{ShownConf, ShownFault};
 use crate::shown_graph::{ShownGraph, ShownRefusal};
 use crate::shown_items::{ShownItems, ShownStop};
@@ -215,7 +217,9 @@ fn number_line(
     alloc: Global,
     made: &std::result::Result<Graph, GraphFault>,
     image: &str,
-) -> Result<String> {
+) -> Result<String>
+    requires { IfOk made.now (λ graph. length graph.specs ≤ 64) }
+{
     let Ok(graph) = made else {
         bail!("no graph");
     };
